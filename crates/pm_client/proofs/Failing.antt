@@ -23,20 +23,17 @@ use Rattle.pm_limits.specs.Limits.{most_rows}
 use Rattle.pm_elim.specs.EliminationSteps.{EliminationStep}
 use Rattle.pm_dd.specs.HullRefusals.{IsShownOnParts}
 use Rattle.pm_object.specs.Reading.{ViewSeen}
-use Rattle.pm_standard.specs.Table.{standard_kind}
 use Rattle.pm_props.specs.Properties.{is_generator, is_half_space}
-use Rattle.pm_props.specs.declared.kind.Kind.{Kind}
 use Rattle.pm_object_type.specs.declared.object_type.ObjectType.TheVariants.{Cone, Fan, Polytope}
 use Rattle.pm_object_type.specs.declared.object_type.ObjectType.{ObjectType}
 use Rattle.pm_props.specs.declared.property.PropId.TheVariants.{AffineHull, Equations, Facets, Inequalities, InputLineality, LinealitySpace, Points, Vertices}
 use Rattle.pm_props.specs.declared.property.PropId.{PropId}
-use Rattle.pm_standard.specs.declared.standard.StandardClient.TheVariants as client
 use Rattle.pm_simplex.specs.Generated.{no_objective}
 use Rattle.pm_simplex.specs.Answers.{ShowsProgram}
 use Rattle.pm_simplex.specs.Fails as linear
 use Rattle.pm_simplex.specs.declared.fails.LpFail.{LpFail}
 use Rattle.pm_simplex.specs.declared.fails.LpFail.TheVariants as program
-use Rattle.std.proofs.Common.{ap, inl, inr, refl, subst, sym, true, ◌∙◌}
+use Rattle.std.proofs.Common.{ap, inl, inr, refl, sym, true, ◌∙◌}
 use Rattle.std.proofs.lemmas.List.{append-nil}
 use Rattle.std.specs.List.{Contains}
 use Rattle.std.specs.Prelude.{IsTrue, List, [], length, ℕ, ◌++◌, ◌∷◌, ◌≡◌, ◌≤◌, ◌⊎◌}
@@ -193,10 +190,10 @@ module _ (v : ViewSeen) (thinning_takes : eliminated_by v.kind.name ≡ flat_row
 
 -- ---- linear programs
 -- whether there is a point
-module _ (v : ViewSeen) (kind : v.kind ≡ standard_kind client.FeasibleLp) (E A : List Row) (e : AreRowsOf v Equations E) (a : AreRowsOf v Inequalities A) where
+module _ (v : ViewSeen) (named : IsTrue (has_way v.kind.name feasibility)) (E A : List Row) (e : AreRowsOf v Equations E) (a : AreRowsOf v Inequalities A) where
   pub wide_feasibility : (w : Evidence) → ShowsProgram (half_spaces v.of v.cols A) E (no_objective v.cols) w → IsWideFeasibility v w
   wide_feasibility w h = record {
-    named = subst (λ (k : Kind). has_way k.name feasibility ≡ true) (sym kind) refl;
+    named = named;
     equations = E;
     inequalities = half_spaces v.of v.cols A;
     read = halves_read v E A e a;

@@ -19,18 +19,16 @@ use Rattle.pm_relations.proofs.Incidence.{incidence_is_right}
 use Rattle.pm_types.proofs.PrimitiveRows.{few_rows}
 use Rattle.pm_relations.proofs.PrimitiveStanding.{primitive_stand}
 use Rattle.pm_types.specs.Forms.{FormsIn, is_formed}
-use Rattle.pm_standard.specs.Table.{standard_kind}
-use Rattle.pm_props.specs.declared.kind.Kind.{Kind}
-use Rattle.pm_standard.specs.declared.standard.StandardClient.TheVariants as client
+use Rattle.pm_clients_comb.specs.Incidence.{FindsIncidence}
 use Rattle.pm_types.specs.Values.{IndexSets, matrix, sets}
 use Rattle.pm_props.specs.declared.property.PropId.TheVariants.{Facets, Vertices, VerticesInFacets}
 use Rattle.std.proofs.Common.{ap, arith, get_or, inl, refl, subst, sym, true}
 use Rattle.std.specs.List.{All}
-use Rattle.std.specs.Prelude.{List, Some, [], length, ℕ, ◌++◌, ◌∷◌, ◌≡◌}
+use Rattle.std.specs.Prelude.{Bool, IsTrue, List, Some, false, [], length, ℕ, ◌++◌, ◌∷◌, ◌≡◌}
 
 -- the view has these matrices, and these are the primitive rows of theirs
 pub record Reads (v : ViewSeen) (m k : ℕ) (facets vertices : List (List Ratio)) (F V : List Row) : Type 0 where
-  pub kind : v.kind ≡ standard_kind client.Incidence
+  pub kind : FindsIncidence v.kind
   pub facets_read : fact_of Facets v.facts ≡ Some (matrix m facets)
   pub vertices_read : fact_of Vertices v.facts ≡ Some (matrix k vertices)
   pub facets_form : FormsIn v.of v.cols Facets (matrix m facets)
@@ -60,17 +58,22 @@ pub sets_sound : (v : ViewSeen) (m k : ℕ) (facets vertices : List (List Ratio)
     → new ≡ record old { values = old.values ++ record { property = VerticesInFacets; value = sets s.rows s.cols } ∷ [] } → IsSound v new
 sets_sound v m k facets vertices F V s old new h e empty put =
     sound_plain v VerticesInFacets (sets (incidence F V) (length V)) old new refl refl (formed v m k facets vertices F V h)
-    (subst (λ z. IsPut v VerticesInFacets (sets z.rows z.cols) old new) e (record { targets = ap (λ z. z.targets) h.kind; empty = empty; put = put })) (follows v m k facets vertices F V h)
+    (subst (λ z. IsPut v VerticesInFacets (sets z.rows z.cols) old new) e (record { targets = h.kind.targets; empty = empty; put = put })) (follows v m k facets vertices F V h)
 
 -- ---- the evidence
-pub fails_rightly : (v : ViewSeen) (m k : ℕ) (facets vertices : List (List Ratio)) (F V : List Row) (e : IncFail) → v.kind ≡ standard_kind client.Incidence → fact_of Facets v.facts ≡ Some (matrix m facets) → fact_of Vertices v.facts ≡ Some (matrix k vertices)
+pub fails_rightly : (v : ViewSeen) (m k : ℕ) (facets vertices : List (List Ratio)) (F V : List Row) (e : IncFail) → IsTrue (has_way v.kind.name products) → fact_of Facets v.facts ≡ Some (matrix m facets) → fact_of Vertices v.facts ≡ Some (matrix k vertices)
     → ArePrimitiveRowsOf facets F → ArePrimitiveRowsOf vertices V → IsWideFor F V e → FailsRightly v (fail_of_incidence e)
 fails_rightly v m k facets vertices F V Memory kind g h p q w = tt
 fails_rightly v m k facets vertices F V (Wide (E4 a x)) kind g h p q w =
     inl (record {
-      named = subst (λ (z : Kind). has_way z.name products ≡ true) (sym kind) refl;
+      named = kind;
       generator = row_of v is_generator Vertices k vertices V a h refl q w.0 (λ z. w.2 (zero_stays a x z));
       half_space = row_of v is_half_space Facets m facets F x g refl p w.1 (λ z. w.2 (stays_turned x a (zero_stays x a z)));
       wide = w.2;
     })
 fails_rightly v m k facets vertices F V (Wide e) kind g h p q w = absurd w
+
+pub fails_either : (v : ViewSeen) (m k : ℕ) (facets vertices : List (List Ratio)) (F V : List Row) (e : IncFail) (wide : Bool) → (wide ≡ true → e ≡ Memory) → (wide ≡ false → IsTrue (has_way v.kind.name products)) → fact_of Facets v.facts ≡ Some (matrix m facets) → fact_of Vertices v.facts ≡ Some (matrix k vertices)
+    → ArePrimitiveRowsOf facets F → ArePrimitiveRowsOf vertices V → IsWideFor F V e → FailsRightly v (fail_of_incidence e)
+fails_either v m k facets vertices F V e true exact named g h p q w = subst (λ x. FailsRightly v (fail_of_incidence x)) (sym (exact refl)) tt
+fails_either v m k facets vertices F V e false exact named g h p q w = fails_rightly v m k facets vertices F V e (named refl) g h p q w

@@ -1,11 +1,11 @@
 // The clients that find sets, their sizes, and what these show.
 
-ghost use Rattle.pm_client.specs.Sound.{FailsRightly, IsSound};
+ghost use Rattle.pm_client.specs.Sound.{FailsRightly, IsSound, has_way, products};
 ghost use Rattle.pm_client.specs.declared.ClientFail.TheVariants.{Memory};
-ghost use Rattle.pm_clients_comb.specs.Incidence.{StaysInRange};
+ghost use Rattle.pm_clients_comb.specs.Incidence.{FindsIncidence, StaysInRange};
 ghost use Rattle.pm_standard.specs.Table.{standard_kind};
 ghost use Rattle.pm_standard.specs.declared.standard.StandardClient.TheVariants as client;
-ghost use Rattle.std.specs.Prelude.{IfErr, OnOk, [], ◌≡◌, map, ◌∷◌};
+ghost use Rattle.std.specs.Prelude.{false, IfErr, IsTrue, OnOk, [], true, ◌≡◌, map, ◌∷◌};
 
 use crate::sizes::{all_are, place_sizes, set_sizes};
 use pm_client::{ClientFail, counts_of, matrix_of, primitive_rows, put_value, sets_of, whole_of};
@@ -24,12 +24,13 @@ pub enum SetsWork {
     FacetSizes,
     Simple,
     Simplicial,
+    IncidenceWide,
 }
 
 impl SetsWork {
     ghost use Rattle.pm_clients_comb.specs.Works.{sets_client};
 
-    /// All of them, in the order of the standard book.
+    /// Those of the standard clients, in the order of the standard book.
     pub fn every() -> [SetsWork; 5]
         ensures { map sets_client result ≡ client.Incidence ∷ client.VertexSizes ∷ client.FacetSizes
             ∷ client.Simple ∷ client.Simplicial ∷ [] }
@@ -42,19 +43,26 @@ impl SetsWork {
             Self::Simplicial,
         ]
     }
+
+    /// That of the client that answers by wide numbers.
+    pub fn wide() -> [SetsWork; 1]
+        ensures { map sets_client result ≡ client.IncidenceWide ∷ [] }
+    {
+        [Self::IncidenceWide]
+    }
 }
 
-/// The standard clients that find sets, their sizes, and what these show.
+/// The clients that find sets, their sizes, and what these show.
 #[derive(Debug, Drop)]
 pub struct SetsFamily;
 
 /// A client that finds sets or sizes of sets. `incidence` fails exactly where a product of the primitive whole rows
-/// that it reads leaves the range, the others for want of memory alone.
+/// that it reads leaves the range, the others, `incidence_wide` among them, for want of memory alone.
 pub type SetsClient = FamilyClient<SetsFamily>;
 
 impl Family for SetsFamily {
     ghost use Rattle.pm_client.specs.Sound.{FailsRightly};
-    ghost use Rattle.pm_clients_comb.specs.Works.{SetsStay, sets_client};
+    ghost use Rattle.pm_clients_comb.specs.Works.{SetsFail, SetsStay, sets_client};
 
     type Work = SetsWork;
 
@@ -62,7 +70,7 @@ impl Family for SetsFamily {
 
     ghost Stays = { λ w v _. SetsStay w v };
 
-    ghost Fails = { λ _ v e. FailsRightly v e };
+    ghost Fails = { SetsFail };
 
     fn client(work: SetsWork) -> StandardClient {
         match work {
@@ -71,6 +79,7 @@ impl Family for SetsFamily {
             SetsWork::FacetSizes => StandardClient::FacetSizes,
             SetsWork::Simple => StandardClient::Simple,
             SetsWork::Simplicial => StandardClient::Simplicial,
+            SetsWork::IncidenceWide => StandardClient::IncidenceWide,
         }
     }
 
@@ -81,7 +90,8 @@ impl Family for SetsFamily {
         draft: &mut Draft,
     ) -> Result<(), ClientFail> {
         match work {
-            SetsWork::Incidence => vertices_in_facets(alloc, view, draft),
+            SetsWork::Incidence => vertices_in_facets(alloc, view, draft, false),
+            SetsWork::IncidenceWide => vertices_in_facets(alloc, view, draft, true),
             SetsWork::VertexSizes => vertex_sizes(alloc, view, draft),
             SetsWork::FacetSizes => facet_sizes(alloc, view, draft),
             SetsWork::Simple => simple(view, draft),
@@ -90,18 +100,26 @@ impl Family for SetsFamily {
     }
 }
 
-// VERTICES_IN_FACETS: which rows of VERTICES have product 0 with each row of FACETS.
-fn vertices_in_facets(alloc: Global, view: &View, draft: &mut Draft) -> Result<(), ClientFail>
-    requires kind { view.now.kind ≡ standard_kind client.Incidence }
+// VERTICES_IN_FACETS: which rows of VERTICES have product 0 with each row of FACETS; with the word, however wide the
+// products are.
+fn vertices_in_facets(
+    alloc: Global,
+    view: &View,
+    draft: &mut Draft,
+    wide: bool,
+) -> Result<(), ClientFail>
+    requires kind { FindsIncidence view.now.kind }
+    requires multiplies { wide ≡ false → IsTrue (has_way view.now.kind.name products) }
     requires empty { draft.old ≡ record { kind = view.now.kind; values = [] } }
     ensures draft { draft.new.kind ≡ draft.old.kind }
     ensures sound { OnOk result (IsSound view.now draft.new) }
     ensures failed { IfErr result (FailsRightly view.now) }
-    ensures stays { OnOk result (StaysInRange view.now) }
+    ensures stays { wide ≡ false → OnOk result (StaysInRange view.now) }
+    ensures total { wide ≡ true → IfErr result (λ e. e ≡ Memory) }
 {
     let facets = primitive_rows(alloc, matrix_of(view, PropId::Facets))?;
     let vertices = primitive_rows(alloc, matrix_of(view, PropId::Vertices))?;
-    let sets = incidence(alloc, &facets, &vertices)?;
+    let sets = incidence(alloc, &facets, &vertices, wide)?;
     put_value(draft, PropId::VerticesInFacets, Value::Sets(sets))?;
     Ok(())
 }

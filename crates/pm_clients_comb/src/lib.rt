@@ -2,7 +2,7 @@
 //! sessions.
 #![tactic(auto)]
 
-ghost use Rattle.pm_clients_comb.specs.Examples.{SizesAreRead};
+ghost use Rattle.pm_clients_comb.specs.Examples.{IncidenceIsRead, SizesAreRead};
 
 mod client;
 mod sizes;
@@ -12,4 +12,9 @@ pub use client::{SetsClient, SetsWork};
 /// Sizes of three sets.
 pub fn example_sizes()
     ensures { SizesAreRead }
+{}
+
+/// The clients that find incidence, and how the wide one fails.
+pub fn example_incidence_clients()
+    ensures { IncidenceIsRead }
 {}

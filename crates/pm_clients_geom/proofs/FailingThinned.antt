@@ -10,37 +10,27 @@ use Rattle.pm_incidence.specs.Thinning.{half_spaces}
 use Rattle.pm_incidence.specs.declared.fails.ThinFail.{ThinFail}
 use Rattle.pm_incidence.specs.declared.fails.ThinFail.TheVariants as thinning
 use Rattle.pm_object.specs.Reading.{ViewSeen}
-use Rattle.pm_standard.specs.Table.{standard_kind}
-use Rattle.pm_props.specs.declared.kind.Kind.{Kind}
 use Rattle.pm_props.specs.declared.property.PropId.TheVariants.{Equations, Inequalities}
-use Rattle.pm_standard.specs.declared.standard.StandardClient.{StandardClient}
-use Rattle.pm_standard.specs.declared.standard.StandardClient.TheVariants as client
 use Rattle.pm_redund.specs.Redundancy.{IsRowsFail, IsRedundancyFail, IsWideRedundancy}
 use Rattle.pm_simplex.specs.Generated.{IsWideThinning}
-use Rattle.std.proofs.Common.{inl, inr, refl, subst, sym, true}
+use Rattle.std.proofs.Common.{inl, inr, refl}
 use Rattle.std.specs.Prelude.{IsTrue, List, [], ◌∷◌, ◌≡◌}
 
 -- a client of this kind thins by them
-module _ (v : ViewSeen) (c : StandardClient) (kind : v.kind ≡ standard_kind c) (by_programs : has_way (standard_kind c).name thinning_programs ≡ true) (alone : eliminated_by (standard_kind c).name ≡ line_rows ∷ line_basis_and_row ∷ []) (L G : List Row) (read : AreParts v L G) where
-  named_thinning : IsTrue (has_way v.kind.name thinning_programs)
-  named_thinning = subst (λ (k : Kind). has_way k.name thinning_programs ≡ true) (sym kind) by_programs
-
-  lines_taken : eliminated_by v.kind.name ≡ line_rows ∷ line_basis_and_row ∷ []
-  lines_taken = subst (λ (k : Kind). eliminated_by k.name ≡ line_rows ∷ line_basis_and_row ∷ []) (sym kind) alone
-
+module _ (v : ViewSeen) (by_programs : IsTrue (has_way v.kind.name thinning_programs)) (alone : eliminated_by v.kind.name ≡ line_rows ∷ line_basis_and_row ∷ []) (L G : List Row) (read : AreParts v L G) where
   -- on an elimination
   wide_lines : (e : EliminationStep) → IsWideRedundancy v.cols G L e → IsWideElimination v e
   wide_lines e h = elim h.listed [
     | inl group ↦ record {
       list = line_rows;
-      named = rw lines_taken (Contains_among (here {xs = line_basis_and_row ∷ []}));
+      named = rw alone (Contains_among (here {xs = line_basis_and_row ∷ []}));
       rows = h.rows;
       listed = record { lines = L; rows = G; read = read; marks = h.lines; marked = h.marked; group = group };
       shown = h.shown;
     }
     | inr last ↦ record {
       list = line_basis_and_row;
-      named = rw lines_taken (Contains_among (there (here {xs = []})));
+      named = rw alone (Contains_among (there (here {xs = []})));
       rows = h.rows;
       listed = record { lines = L; rows = G; read = read; marks = h.lines; marked = h.marked; last = last };
       shown = h.shown;
@@ -49,26 +39,26 @@ module _ (v : ViewSeen) (c : StandardClient) (kind : v.kind ≡ standard_kind c)
 
   -- on a program
   wide_program : (e : Evidence) → IsWideThinning v.cols G L e → HoldsOf e v
-  wide_program (evidence.E3 basis enter leave row column) h = inl (record { named = named_thinning; lines = L; rows = G; read = read; shown = h })
+  wide_program (evidence.E3 basis enter leave row column) h = inl (record { named = by_programs; lines = L; rows = G; read = read; shown = h })
   wide_program e h = absurd h.shown.shown
 
 -- POINTS
-pub fails_by_thin_rays : (v : ViewSeen) → v.kind ≡ standard_kind client.ThinPointsLp → (L G : List Row) → AreParts v L G → (f : ThinFail) → IsRedundancyFail v.cols G L f → FailsRightly v (fail_of_thin f)
-fails_by_thin_rays v kind L G read (thinning.Wide (evidence.E1 step)) h = inl (wide_lines v client.ThinPointsLp kind refl refl L G read step h)
-fails_by_thin_rays v kind L G read (thinning.Wide e) h = wide_program v client.ThinPointsLp kind refl refl L G read e h
-fails_by_thin_rays v kind L G read (thinning.Many e) h = absurd h
-fails_by_thin_rays v kind L G read thinning.Memory h = tt
+pub fails_by_thin_rays : (v : ViewSeen) → IsTrue (has_way v.kind.name thinning_programs) → eliminated_by v.kind.name ≡ line_rows ∷ line_basis_and_row ∷ [] → (L G : List Row) → AreParts v L G → (f : ThinFail) → IsRedundancyFail v.cols G L f → FailsRightly v (fail_of_thin f)
+fails_by_thin_rays v programs alone L G read (thinning.Wide (evidence.E1 step)) h = inl (wide_lines v programs alone L G read step h)
+fails_by_thin_rays v programs alone L G read (thinning.Wide e) h = wide_program v programs alone L G read e h
+fails_by_thin_rays v programs alone L G read (thinning.Many e) h = absurd h
+fails_by_thin_rays v programs alone L G read thinning.Memory h = tt
 
 -- INEQUALITIES
-module _ (v : ViewSeen) (kind : v.kind ≡ standard_kind client.ThinInequalitiesLp) (E A : List Row) (e : AreRowsOf v Equations E) (a : AreRowsOf v Inequalities A) where
+module _ (v : ViewSeen) (programs : IsTrue (has_way v.kind.name thinning_programs)) (alone : eliminated_by v.kind.name ≡ line_rows ∷ line_basis_and_row ∷ []) (counts : IsTrue (has_way v.kind.name facet_count)) (E A : List Row) (e : AreRowsOf v Equations E) (a : AreRowsOf v Inequalities A) where
   both_read : AreParts v E (half_spaces v.of v.cols A)
   both_read = record { first = Equations; second = Inequalities; parts = refl; read = halves_read v E A e a }
 
   pub fails_by_thin_rows : (f : ThinFail) → IsRowsFail v.of v.cols A E f → FailsRightly v (fail_of_thin f)
-  fails_by_thin_rows (thinning.Wide (evidence.E1 step)) h = inl (wide_lines v client.ThinInequalitiesLp kind refl refl E (half_spaces v.of v.cols A) both_read step h)
-  fails_by_thin_rows (thinning.Wide w) h = wide_program v client.ThinInequalitiesLp kind refl refl E (half_spaces v.of v.cols A) both_read w h
+  fails_by_thin_rows (thinning.Wide (evidence.E1 step)) h = inl (wide_lines v programs alone E (half_spaces v.of v.cols A) both_read step h)
+  fails_by_thin_rows (thinning.Wide w) h = wide_program v programs alone E (half_spaces v.of v.cols A) both_read w h
   fails_by_thin_rows (thinning.Many (evidence.E5Rows places)) h = record {
-    named = subst (λ (k : Kind). has_way k.name facet_count ≡ true) (sym kind) refl;
+    named = counts;
     equations = E;
     inequalities = A;
     reads_equations = e;

@@ -4,7 +4,7 @@ use Rattle.pm_vector.specs.Rows.{HasCols, IsZero, Row}
 use Rattle.pm_client.proofs.PlainValues.{sound_truth}
 use Rattle.pm_client.proofs.Puts.{IsPut}
 use Rattle.pm_client.proofs.Failing.{wide_feasibility}
-use Rattle.pm_client.specs.Sound.{AreRowsOf, IsSound, fail_of_program}
+use Rattle.pm_client.specs.Sound.{AreRowsOf, IsSound, fail_of_program, feasibility, has_way}
 use Rattle.pm_clients_geom.proofs.FoundHulls.{AreFacetsOf, rows_pair}
 use Rattle.pm_clients_geom.specs.Lists.{ReadsParts}
 use Rattle.pm_clients_geom.specs.Redundancy.{FailsForProgram}
@@ -100,6 +100,6 @@ pub program_as : (v : ViewSeen) → v.of ≡ Polytope → (E A : List Row) (f : 
 program_as v polytope E A f h = subst (λ k. IfWide f (ShowsProgram (half_spaces k v.cols A) E (no_objective v.cols))) (sym polytope) h
 
 -- so `feasible_lp` fails
-pub point_fails : (v : ViewSeen) → v.kind ≡ standard_kind client.FeasibleLp → (E A : List Row) → AreRowsOf v Equations E → AreRowsOf v Inequalities A → (f : LpFail) → IfWide f (ShowsProgram (half_spaces v.of v.cols A) E (no_objective v.cols)) → FailsForProgram v (fail_of_program f)
-point_fails v kind E A e a (Wide w) h = wide_feasibility v kind E A e a w h
-point_fails v kind E A e a Memory h = tt
+pub point_fails : (v : ViewSeen) → IsTrue (has_way v.kind.name feasibility) → (E A : List Row) → AreRowsOf v Equations E → AreRowsOf v Inequalities A → (f : LpFail) → IfWide f (ShowsProgram (half_spaces v.of v.cols A) E (no_objective v.cols)) → FailsForProgram v (fail_of_program f)
+point_fails v asks E A e a (Wide w) h = wide_feasibility v asks E A e a w h
+point_fails v asks E A e a Memory h = tt

@@ -3,11 +3,13 @@ use Rattle.pm_vector.specs.Rows.{Row}
 use Rattle.pm_client.specs.Examples.{without_rows}
 use Rattle.pm_client.specs.Sound.{IsWideElimination}
 use Rattle.pm_client.specs.declared.ClientFail.TheVariants.{Failed, Memory}
-use Rattle.pm_clients_geom.specs.Redundancy.{FailsForProgram, RedundancyFails}
+use Rattle.pm_clients_geom.specs.Redundancy.{AsksForPoint, FailsForProgram, RedundancyFails, ThinsByPrograms, ThinsHalvesByPrograms}
 use Rattle.pm_clients_geom.specs.Points.{HasSolution}
 use Rattle.pm_elim.specs.EliminationSteps.{EliminationStep}
 use Rattle.pm_geom.specs.declared.evidence.Evidence.TheVariants.{E1, E4}
 use Rattle.pm_clients_geom.specs.declared.redundancy.RedundancyWork.TheVariants as redundancy
+use Rattle.pm_standard.specs.Table.{standard_kind}
+use Rattle.pm_standard.specs.declared.standard.StandardClient.TheVariants as client
 use Rattle.std.specs.Prelude.{[], codes, ◌∷◌}
 use lib.IntN.{ℤ, negsuc, pos}
 
@@ -16,6 +18,13 @@ abbrev pub pair : ℤ → ℤ → Row
 pair a b = a ∷ b ∷ []
 
 pub record FailsAreRead : Type 0 where
+  -- which clients thin by linear programs, and which asks for a point
+  pub thins : ThinsByPrograms (standard_kind client.ThinPointsLpWide)
+  pub thins_otherwise : ¬ (ThinsByPrograms (standard_kind client.ThinPointsFWide))
+  pub thins_halves : ThinsHalvesByPrograms (standard_kind client.ThinInequalitiesLp)
+  pub counts_no_facets : ¬ (ThinsHalvesByPrograms (standard_kind client.ThinPointsLp))
+  pub asks : AsksForPoint (standard_kind client.FeasibleLpWide)
+  pub asks_nothing : ¬ (AsksForPoint (standard_kind client.ThinInequalitiesLpWide))
   -- memory may be wanting to each; a product is no evidence of the program of `feasible_lp`
   pub memory : FailsForProgram (without_rows (codes "feasible_lp")) Memory
   pub feasible_fails : RedundancyFails redundancy.FeasibleLp (without_rows (codes "feasible_lp")) Memory

@@ -50,6 +50,9 @@ abbrev pub redundancy_client : RedundancyWork → StandardClient
 redundancy_client redundancy.ThinPointsLp = client.ThinPointsLp
 redundancy_client redundancy.ThinInequalitiesLp = client.ThinInequalitiesLp
 redundancy_client redundancy.FeasibleLp = client.FeasibleLp
+redundancy_client redundancy.ThinPointsLpWide = client.ThinPointsLpWide
+redundancy_client redundancy.ThinInequalitiesLpWide = client.ThinInequalitiesLpWide
+redundancy_client redundancy.FeasibleLpWide = client.FeasibleLpWide
 
 -- of those that find rows
 abbrev pub rows_client : RowsWork → StandardClient

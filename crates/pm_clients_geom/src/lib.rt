@@ -60,7 +60,7 @@ pub fn law_feasible_has_point()
     ensures { FeasibleHasPoint }
 {}
 
-/// How the clients of linear programs fail.
+/// Which clients thin by linear programs, which asks for a point, and how they fail.
 pub fn example_redundancy()
     ensures { FailsAreRead }
 {}

@@ -12,8 +12,9 @@ ghost use Rattle.std.specs.Prelude.{IfErr, IfOk, IsTrue, length, ◌<◌, ◌^�
 
 use pm_fraction::Fraction;
 use pm_incidence::with_first;
-use pm_simplex::{LpAnswer, LpFail, maximise_rows};
+use pm_simplex::{LpAnswer, LpFail};
 use pm_vector::Ints;
+use pm_wide_programs::maximise_rows_by;
 use std::alloc::{AllocError, Global};
 
 /// The objective 0.
@@ -29,6 +30,7 @@ fn is_feasible(
     cols: usize,
     inequalities: &[Ints],
     equations: &[Ints],
+    wide: bool,
 ) -> Result<bool, LpFail>
     requires inequality_cols { HasCols cols inequalities.now }
     requires equation_cols { HasCols cols equations.now }
@@ -41,7 +43,7 @@ fn is_feasible(
         (ShowsProgram inequalities.now equations.now (no_objective cols))) }
 {
     let objective = no_objective(alloc, cols)?;
-    match maximise_rows(alloc, inequalities, equations, &objective) {
+    match maximise_rows_by(alloc, inequalities, equations, &objective, wide) {
         Ok(LpAnswer::Infeasible { .. }) => Ok(false),
         Ok(LpAnswer::Optimal { .. }) => Ok(true),
         Ok(LpAnswer::Unbounded { .. }) => Ok(true),
@@ -49,14 +51,15 @@ fn is_feasible(
     }
 }
 
-/// Whether the inequalities and equations of a polytope have a point. `Wide` only where a pivot of their program
-/// leaves the range, which the evidence (E3) shows;
+/// Whether the inequalities and equations of a polytope have a point; where it is asked by wide numbers, these go on
+/// where a pivot leaves the range. `Wide` only where a pivot of their program leaves it, which the evidence (E3) shows;
 /// the half-spaces of that program end with the row (1, 0, .., 0).
 pub fn has_point(
     alloc: Global,
     cols: usize,
     inequalities: Vec<Ints>,
     equations: &[Ints],
+    wide: bool,
 ) -> Result<bool, LpFail>
     requires inequality_cols { HasCols cols inequalities.items }
     requires equation_cols { HasCols cols equations.now }
@@ -71,6 +74,6 @@ pub fn has_point(
         equations.now (no_objective cols))) }
 {
     let rows = with_first(alloc, cols, inequalities)?;
-    let found = is_feasible(alloc, cols, &rows, equations)?;
+    let found = is_feasible(alloc, cols, &rows, equations, wide)?;
     Ok(found)
 }

@@ -1,8 +1,7 @@
 // The clients that thin a description by linear programs, and the one that asks whether there is a point.
 
 ghost use Rattle.pm_client.specs.Sound.{FailsRightly, IsSound};
-ghost use Rattle.pm_clients_geom.specs.Redundancy.{FailsForProgram};
-ghost use Rattle.pm_standard.specs.Table.{standard_kind};
+ghost use Rattle.pm_clients_geom.specs.Redundancy.{AsksForPoint, FailsForProgram, ThinsByPrograms, ThinsHalvesByPrograms};
 ghost use Rattle.pm_standard.specs.declared.standard.StandardClient.TheVariants as client;
 ghost use Rattle.std.specs.Prelude.{IfErr, OnOk, [], ◌≡◌, map, ◌∷◌};
 
@@ -23,12 +22,15 @@ pub enum RedundancyWork {
     ThinPointsLp,
     ThinInequalitiesLp,
     FeasibleLp,
+    ThinPointsLpWide,
+    ThinInequalitiesLpWide,
+    FeasibleLpWide,
 }
 
 impl RedundancyWork {
     ghost use Rattle.pm_clients_geom.specs.Works.{redundancy_client};
 
-    /// All of them, in the order of the standard book.
+    /// Those of the standard clients, in the order of the standard book.
     pub fn every() -> [RedundancyWork; 3]
         ensures { map redundancy_client result ≡ client.ThinPointsLp ∷ client.ThinInequalitiesLp
             ∷ client.FeasibleLp ∷ [] }
@@ -39,16 +41,29 @@ impl RedundancyWork {
             Self::FeasibleLp,
         ]
     }
+
+    /// Those of the clients that answer by wide numbers, in the order of their rules.
+    pub fn wide() -> [RedundancyWork; 3]
+        ensures { map redundancy_client result ≡ client.ThinPointsLpWide ∷ client.ThinInequalitiesLpWide
+            ∷ client.FeasibleLpWide ∷ [] }
+    {
+        [
+            Self::ThinPointsLpWide,
+            Self::ThinInequalitiesLpWide,
+            Self::FeasibleLpWide,
+        ]
+    }
 }
 
-/// The standard clients of linear programs over half-spaces or generators.
+/// The clients of linear programs over half-spaces or generators.
 #[derive(Debug, Drop)]
 pub struct RedundancyFamily;
 
 /// A client of linear programs. It fails for want of memory, and where a pivot of one of its programs leaves the
 /// range;
 /// those that thin also where a step of an elimination does, and `thin_inequalities_lp` where there are more than
-/// `MOST_ROWS` facets.
+/// `MOST_ROWS` facets. A wide one searches by wide numbers where a pivot leaves the range, and where these do not
+/// suffice it fails as the standard one.
 pub type RedundancyClient = FamilyClient<RedundancyFamily>;
 
 impl Family for RedundancyFamily {
@@ -68,6 +83,9 @@ impl Family for RedundancyFamily {
             RedundancyWork::ThinPointsLp => StandardClient::ThinPointsLp,
             RedundancyWork::ThinInequalitiesLp => StandardClient::ThinInequalitiesLp,
             RedundancyWork::FeasibleLp => StandardClient::FeasibleLp,
+            RedundancyWork::ThinPointsLpWide => StandardClient::ThinPointsLpWide,
+            RedundancyWork::ThinInequalitiesLpWide => StandardClient::ThinInequalitiesLpWide,
+            RedundancyWork::FeasibleLpWide => StandardClient::FeasibleLpWide,
         }
     }
 
@@ -78,44 +96,73 @@ impl Family for RedundancyFamily {
         draft: &mut Draft,
     ) -> Result<(), ClientFail> {
         match work {
-            RedundancyWork::ThinPointsLp => thin_points_lp(alloc, view, draft),
-            RedundancyWork::ThinInequalitiesLp => thin_inequalities_lp(alloc, view, draft),
-            RedundancyWork::FeasibleLp => feasible_lp(alloc, view, draft),
+            RedundancyWork::ThinPointsLp => thin_points_lp(alloc, view, draft, false),
+            RedundancyWork::ThinInequalitiesLp => thin_inequalities_lp(alloc, view, draft, false),
+            RedundancyWork::FeasibleLp => feasible_lp(alloc, view, draft, false),
+            RedundancyWork::ThinPointsLpWide => thin_points_lp(alloc, view, draft, true),
+            RedundancyWork::ThinInequalitiesLpWide => {
+                thin_inequalities_lp(alloc, view, draft, true)
+            }
+            RedundancyWork::FeasibleLpWide => feasible_lp(alloc, view, draft, true),
         }
     }
 }
 
 // VERTICES and LINEALITY_SPACE: the extreme rays among POINTS, and the lineality.
-fn thin_points_lp(alloc: Global, view: &View, draft: &mut Draft) -> Result<(), ClientFail>
-    requires kind { view.now.kind ≡ standard_kind client.ThinPointsLp }
+fn thin_points_lp(
+    alloc: Global,
+    view: &View,
+    draft: &mut Draft,
+    wide: bool,
+) -> Result<(), ClientFail>
+    requires kind { ThinsByPrograms view.now.kind }
     requires empty { draft.old ≡ record { kind = view.now.kind; values = [] } }
     ensures draft { draft.new.kind ≡ draft.old.kind }
     ensures sound { OnOk result (IsSound view.now draft.new) }
     ensures failed { IfErr result (FailsRightly view.now) }
 {
     let points = read_parts(alloc, view, PropId::InputLineality, PropId::Points)?;
-    let found = thin_rays(alloc, view.of(), view.cols(), &points.second, &points.first)?;
+    let found = thin_rays(
+        alloc,
+        view.of(),
+        view.cols(),
+        &points.second,
+        &points.first,
+        wide,
+    )?;
     put_generators(alloc, view, draft, found)?;
     Ok(())
 }
 
 // FACETS and AFFINE_HULL: the facet rows among INEQUALITIES, and the rows that vanish.
-fn thin_inequalities_lp(alloc: Global, view: &View, draft: &mut Draft) -> Result<(), ClientFail>
-    requires kind { view.now.kind ≡ standard_kind client.ThinInequalitiesLp }
+fn thin_inequalities_lp(
+    alloc: Global,
+    view: &View,
+    draft: &mut Draft,
+    wide: bool,
+) -> Result<(), ClientFail>
+    requires kind { ThinsHalvesByPrograms view.now.kind }
     requires empty { draft.old ≡ record { kind = view.now.kind; values = [] } }
     ensures draft { draft.new.kind ≡ draft.old.kind }
     ensures sound { OnOk result (IsSound view.now draft.new) }
     ensures failed { IfErr result (FailsRightly view.now) }
 {
     let halves = read_parts(alloc, view, PropId::Equations, PropId::Inequalities)?;
-    let found = thin_rows(alloc, view.of(), view.cols(), &halves.second, &halves.first)?;
+    let found = thin_rows(
+        alloc,
+        view.of(),
+        view.cols(),
+        &halves.second,
+        &halves.first,
+        wide,
+    )?;
     put_facets(alloc, view, draft, found)?;
     Ok(())
 }
 
 // FEASIBLE: INEQUALITIES and EQUATIONS have a point.
-fn feasible_lp(alloc: Global, view: &View, draft: &mut Draft) -> Result<(), ClientFail>
-    requires kind { view.now.kind ≡ standard_kind client.FeasibleLp }
+fn feasible_lp(alloc: Global, view: &View, draft: &mut Draft, wide: bool) -> Result<(), ClientFail>
+    requires kind { AsksForPoint view.now.kind }
     requires empty { draft.old ≡ record { kind = view.now.kind; values = [] } }
     ensures draft { draft.new.kind ≡ draft.old.kind }
     ensures sound { OnOk result (IsSound view.now draft.new) }
@@ -124,7 +171,7 @@ fn feasible_lp(alloc: Global, view: &View, draft: &mut Draft) -> Result<(), Clie
 {
     prove!(view.of() == ObjectType::Polytope);
     let halves = read_parts(alloc, view, PropId::Equations, PropId::Inequalities)?;
-    let is_feasible = has_point(alloc, view.cols(), halves.second, &halves.first)?;
+    let is_feasible = has_point(alloc, view.cols(), halves.second, &halves.first, wide)?;
     put_value(draft, PropId::Feasible, Value::Bool(is_feasible))?;
     Ok(())
 }

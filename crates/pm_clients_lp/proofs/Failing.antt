@@ -14,7 +14,7 @@ use Rattle.pm_simplex.specs.OptimumEvidence.{ShowsFace, ShowsValue}
 use Rattle.pm_simplex.specs.Senses.{objective_in, ratio_in}
 use Rattle.pm_simplex.specs.declared.sense.Sense.{Sense}
 use Rattle.pm_types.specs.Values.{extended, finite}
-use Rattle.std.specs.Prelude.{List, Some, [], ℕ, ◌≡◌}
+use Rattle.std.specs.Prelude.{Bool, List, Some, [], ℕ, ◌≡◌}
 use Rattle.pm_client.specs.Sound.{AreRowsOf, ArePartsOf, ReadsObjective, added_rows, optimum, FailsRightly, HoldsOf, IsWideAtRays, IsWideFace, IsWideOptimum, fail_of_program}
 use Rattle.pm_client.specs.declared.ClientFail.TheVariants.{Failed, Memory}
 use Rattle.pm_client.specs.declared.ClientFail.{ClientFail}
@@ -76,14 +76,14 @@ module _ (v : ViewSeen) (sense : Sense) (c : List Ratio) (reads : ReadsObjective
       fails_by (ShowsFace sense c (ratio_in sense x) V) (IsWideFace v)
       (λ e s. record { sense = sense; named = face_named v.kind sense kind; rays = V; reads_rays = rays; objective = c; reads_objective = reads; value = x; reads_value = value; shown = s }) f h
 
-  pub rows_fail : v.kind ≡ standard_kind (over_rows sense) → v.of ≡ Polytope → (E A : List Row) → AreRowsOf v Equations E → AreRowsOf v Inequalities A → IfWide f (ShowsProgram (half_spaces Polytope v.cols A) E (objective_in sense c)) → FailsBy (IsWideOptimum v) (fail_of_program f)
-  rows_fail kind polytope E A equations inequalities h =
+  pub rows_fail : (wide : Bool) → v.kind ≡ standard_kind (over_rows sense wide) → v.of ≡ Polytope → (E A : List Row) → AreRowsOf v Equations E → AreRowsOf v Inequalities A → IfWide f (ShowsProgram (half_spaces Polytope v.cols A) E (objective_in sense c)) → FailsBy (IsWideOptimum v) (fail_of_program f)
+  rows_fail wide kind polytope E A equations inequalities h =
       fails_by (ShowsProgram (half_spaces Polytope v.cols A) E (objective_in sense c)) (IsWideOptimum v)
       (λ e s. record {
         sense = sense;
         first = Equations;
         second = Inequalities;
-        named = rows_named v.kind sense kind;
+        named = rows_named v.kind sense wide kind;
         parts = refl;
         equations = E;
         inequalities = half_spaces Polytope v.cols A;
@@ -93,15 +93,15 @@ module _ (v : ViewSeen) (sense : Sense) (c : List Ratio) (reads : ReadsObjective
         shown = s;
       }) f h
 
-  pub facets_fail : v.kind ≡ standard_kind (over_facets sense) → (E A : List Row) → AreRowsOf v AffineHull E → AreRowsOf v Facets A → IfWide f (ShowsOptimum A E (objective_in sense c)) → FailsBy (IsWideWithDual v) (fail_of_program f)
-  facets_fail kind E A equations inequalities h =
+  pub facets_fail : (wide : Bool) → v.kind ≡ standard_kind (over_facets sense wide) → (E A : List Row) → AreRowsOf v AffineHull E → AreRowsOf v Facets A → IfWide f (ShowsOptimum A E (objective_in sense c)) → FailsBy (IsWideWithDual v) (fail_of_program f)
+  facets_fail wide kind E A equations inequalities h =
       fails_by (ShowsOptimum A E (objective_in sense c)) (IsWideWithDual v)
       (λ e s. elim s [
         | inl p ↦ inl (record {
           sense = sense;
           first = AffineHull;
           second = Facets;
-          named = facets_named v.kind sense kind;
+          named = facets_named v.kind sense wide kind;
           parts = refl;
           equations = E;
           inequalities = A;
@@ -110,5 +110,5 @@ module _ (v : ViewSeen) (sense : Sense) (c : List Ratio) (reads : ReadsObjective
           reads_objective = reads;
           shown = p;
         })
-        | inr d ↦ inr (record { sense = sense; named = dual_named v.kind sense kind; equations = E; inequalities = A; reads_equations = equations; reads_inequalities = inequalities; objective = c; reads_objective = reads; shown = d })
+        | inr d ↦ inr (record { sense = sense; named = dual_named v.kind sense wide kind; equations = E; inequalities = A; reads_equations = equations; reads_inequalities = inequalities; objective = c; reads_objective = reads; shown = d })
       ]) f h

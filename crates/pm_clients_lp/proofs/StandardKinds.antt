@@ -13,7 +13,7 @@ use Rattle.pm_simplex.specs.declared.sense.Sense.TheVariants.{Maximal, Minimal}
 use Rattle.pm_simplex.specs.declared.sense.Sense.{Sense}
 use Rattle.std.proofs.Common.{ap, refl, subst, sym, true, ◌∙◌}
 use Rattle.pm_types.specs.Values.{PropertyValue}
-use Rattle.std.specs.Prelude.{List, None, [], ℕ, ◌∷◌, ◌≡◌}
+use Rattle.std.specs.Prelude.{Bool, List, None, false, [], ℕ, ◌∷◌, ◌≡◌}
 
 abbrev pub ray_sources : List PropId
 ray_sources = Vertices ∷ LinealitySpace ∷ LinearObjective ∷ []
@@ -51,57 +51,71 @@ module _ (k : Kind) (sense : Sense) (is : k ≡ standard_kind (at_rays sense)) w
       by Minimal = refl
 
 -- ---- over INEQUALITIES
-module _ (k : Kind) (sense : Sense) (is : k ≡ standard_kind (over_rows sense)) where
+module _ (k : Kind) (sense : Sense) (wide : Bool) (is : k ≡ standard_kind (over_rows sense wide)) where
   pub rows_read : k.sources ≡ set_of row_sources
-  rows_read = ap (λ z. z.sources) is ∙ by sense
+  rows_read = ap (λ z. z.sources) is ∙ by sense wide
     where
-      by : (s : Sense) → (standard_kind (over_rows s)).sources ≡ set_of row_sources
-      by Maximal = refl
-      by Minimal = refl
+      by : (s : Sense) (w : Bool) → (standard_kind (over_rows s w)).sources ≡ set_of row_sources
+      by Maximal false = refl
+      by Minimal false = refl
+      by Maximal true = refl
+      by Minimal true = refl
 
   pub rows_found : k.targets ≡ set_of (optimum sense ∷ [])
-  rows_found = ap (λ z. z.targets) is ∙ by sense
+  rows_found = ap (λ z. z.targets) is ∙ by sense wide
     where
-      by : (s : Sense) → (standard_kind (over_rows s)).targets ≡ set_of (optimum s ∷ [])
-      by Maximal = refl
-      by Minimal = refl
+      by : (s : Sense) (w : Bool) → (standard_kind (over_rows s w)).targets ≡ set_of (optimum s ∷ [])
+      by Maximal false = refl
+      by Minimal false = refl
+      by Maximal true = refl
+      by Minimal true = refl
 
   pub rows_named : finds_optimum k.name sense Inequalities ≡ true
-  rows_named = subst (λ (z : Kind). finds_optimum z.name sense Inequalities ≡ true) (sym is) (by sense)
+  rows_named = subst (λ (z : Kind). finds_optimum z.name sense Inequalities ≡ true) (sym is) (by sense wide)
     where
-      by : (s : Sense) → finds_optimum (standard_kind (over_rows s)).name s Inequalities ≡ true
-      by Maximal = refl
-      by Minimal = refl
+      by : (s : Sense) (w : Bool) → finds_optimum (standard_kind (over_rows s w)).name s Inequalities ≡ true
+      by Maximal false = refl
+      by Minimal false = refl
+      by Maximal true = refl
+      by Minimal true = refl
 
 -- ---- over FACETS
-module _ (k : Kind) (sense : Sense) (is : k ≡ standard_kind (over_facets sense)) where
+module _ (k : Kind) (sense : Sense) (wide : Bool) (is : k ≡ standard_kind (over_facets sense wide)) where
   pub facets_read : k.sources ≡ set_of facet_sources
-  facets_read = ap (λ z. z.sources) is ∙ by sense
+  facets_read = ap (λ z. z.sources) is ∙ by sense wide
     where
-      by : (s : Sense) → (standard_kind (over_facets s)).sources ≡ set_of facet_sources
-      by Maximal = refl
-      by Minimal = refl
+      by : (s : Sense) (w : Bool) → (standard_kind (over_facets s w)).sources ≡ set_of facet_sources
+      by Maximal false = refl
+      by Minimal false = refl
+      by Maximal true = refl
+      by Minimal true = refl
 
   pub facets_found : k.targets ≡ set_of (optimum sense ∷ dual sense ∷ [])
-  facets_found = ap (λ z. z.targets) is ∙ by sense
+  facets_found = ap (λ z. z.targets) is ∙ by sense wide
     where
-      by : (s : Sense) → (standard_kind (over_facets s)).targets ≡ set_of (optimum s ∷ dual s ∷ [])
-      by Maximal = refl
-      by Minimal = refl
+      by : (s : Sense) (w : Bool) → (standard_kind (over_facets s w)).targets ≡ set_of (optimum s ∷ dual s ∷ [])
+      by Maximal false = refl
+      by Minimal false = refl
+      by Maximal true = refl
+      by Minimal true = refl
 
   pub facets_named : finds_optimum k.name sense Facets ≡ true
-  facets_named = subst (λ (z : Kind). finds_optimum z.name sense Facets ≡ true) (sym is) (by sense)
+  facets_named = subst (λ (z : Kind). finds_optimum z.name sense Facets ≡ true) (sym is) (by sense wide)
     where
-      by : (s : Sense) → finds_optimum (standard_kind (over_facets s)).name s Facets ≡ true
-      by Maximal = refl
-      by Minimal = refl
+      by : (s : Sense) (w : Bool) → finds_optimum (standard_kind (over_facets s w)).name s Facets ≡ true
+      by Maximal false = refl
+      by Minimal false = refl
+      by Maximal true = refl
+      by Minimal true = refl
 
   pub dual_named : has_way k.name (way.dual (sought sense)) ≡ true
-  dual_named = subst (λ (z : Kind). has_way z.name (way.dual (sought sense)) ≡ true) (sym is) (by sense)
+  dual_named = subst (λ (z : Kind). has_way z.name (way.dual (sought sense)) ≡ true) (sym is) (by sense wide)
     where
-      by : (s : Sense) → has_way (standard_kind (over_facets s)).name (way.dual (sought s)) ≡ true
-      by Maximal = refl
-      by Minimal = refl
+      by : (s : Sense) (w : Bool) → has_way (standard_kind (over_facets s w)).name (way.dual (sought s)) ≡ true
+      by Maximal false = refl
+      by Minimal false = refl
+      by Maximal true = refl
+      by Minimal true = refl
 
 -- ---- the rays at an optimum
 module _ (k : Kind) (sense : Sense) (is : k ≡ standard_kind (at_face sense)) where

@@ -12,17 +12,23 @@ use Rattle.pm_standard.specs.declared.standard.StandardClient.{StandardClient}
 use Rattle.pm_standard.specs.declared.standard.StandardClient.TheVariants as client
 use Rattle.pm_simplex.specs.declared.sense.Sense.{Sense}
 use Rattle.pm_simplex.specs.declared.sense.Sense.TheVariants.{Maximal, Minimal}
-use Rattle.std.specs.Prelude.{◌⊎◌}
+use Rattle.std.specs.Prelude.{Bool, false, true, ◌⊎◌}
 
--- ---- in each sense: the client of the optimum, with a dual, over FACETS; over INEQUALITIES; at VERTICES; and that of the rays at the optimum
-abbrev pub over_facets : Sense → StandardClient
-over_facets Maximal = client.LpMax
-over_facets Minimal = client.LpMin
+-- ---- in each sense, and by wide numbers or not: the client of the optimum, with a dual, over FACETS; over
+-- INEQUALITIES
+abbrev pub over_facets : Sense → Bool → StandardClient
+over_facets Maximal false = client.LpMax
+over_facets Minimal false = client.LpMin
+over_facets Maximal true = client.LpMaxWide
+over_facets Minimal true = client.LpMinWide
 
-abbrev pub over_rows : Sense → StandardClient
-over_rows Maximal = client.LpMaxRows
-over_rows Minimal = client.LpMinRows
+abbrev pub over_rows : Sense → Bool → StandardClient
+over_rows Maximal false = client.LpMaxRows
+over_rows Minimal false = client.LpMinRows
+over_rows Maximal true = client.LpMaxRowsWide
+over_rows Minimal true = client.LpMinRowsWide
 
+-- ---- in each sense: the client of the optimum at VERTICES, and that of the rays at the optimum
 abbrev pub at_rays : Sense → StandardClient
 at_rays Maximal = client.LpMaxV
 at_rays Minimal = client.LpMinV
@@ -40,12 +46,14 @@ abbrev pub dual : Sense → PropId
 dual Maximal = MaximalDual
 dual Minimal = MinimalDual
 
--- the standard client of each work
+-- the client of each work
 abbrev pub linear_client : LpWork → StandardClient
-linear_client (work.OverFacets sense) = over_facets sense
-linear_client (work.OverRows sense) = over_rows sense
+linear_client (work.OverFacets sense) = over_facets sense false
+linear_client (work.OverRows sense) = over_rows sense false
 linear_client (work.AtRays sense) = at_rays sense
 linear_client (work.AtFace sense) = at_face sense
+linear_client (work.OverFacetsWide sense) = over_facets sense true
+linear_client (work.OverRowsWide sense) = over_rows sense true
 
 -- for want of memory, or with such evidence
 abbrev pub FailsBy : (Evidence → Type 0) → ClientFail → Type 0
@@ -62,3 +70,5 @@ LinearFails (work.OverFacets sense) v e = FailsBy (IsWideWithDual v) e
 LinearFails (work.OverRows sense) v e = FailsBy (IsWideOptimum v) e
 LinearFails (work.AtRays sense) v e = FailsBy (IsWideAtRays v) e
 LinearFails (work.AtFace sense) v e = FailsBy (IsWideFace v) e
+LinearFails (work.OverFacetsWide sense) v e = FailsBy (IsWideWithDual v) e
+LinearFails (work.OverRowsWide sense) v e = FailsBy (IsWideOptimum v) e

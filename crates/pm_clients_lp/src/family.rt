@@ -24,12 +24,16 @@ pub enum LpWork {
     AtRays(Sense),
     /// The rays at the optimum.
     AtFace(Sense),
+    /// The optimum with a dual, over FACETS, by wide numbers.
+    OverFacetsWide(Sense),
+    /// The optimum over INEQUALITIES, by wide numbers.
+    OverRowsWide(Sense),
 }
 
 impl LpWork {
     ghost use Rattle.pm_clients_lp.specs.Clients.{linear_client};
 
-    /// All of them, in the order of the standard book.
+    /// Those of the standard clients, in the order of the standard book.
     pub fn every() -> [LpWork; 8]
         ensures { map linear_client result ≡ client.LpMax ∷ client.LpMin ∷ client.LpMaxRows
             ∷ client.LpMinRows
@@ -46,15 +50,29 @@ impl LpWork {
             Self::AtFace(Sense::Minimal),
         ]
     }
+
+    /// Those of the clients that answer by wide numbers, in the order of their rules.
+    pub fn wide() -> [LpWork; 4]
+        ensures { map linear_client result ≡ client.LpMaxWide ∷ client.LpMinWide ∷ client.LpMaxRowsWide
+            ∷ client.LpMinRowsWide ∷ [] }
+    {
+        [
+            Self::OverFacetsWide(Sense::Maximal),
+            Self::OverFacetsWide(Sense::Minimal),
+            Self::OverRowsWide(Sense::Maximal),
+            Self::OverRowsWide(Sense::Minimal),
+        ]
+    }
 }
 
-/// The standard clients of linear programs over polytopes.
+/// The clients of linear programs over polytopes.
 #[derive(Debug, Drop)]
 pub struct LpFamily;
 
 /// A client of linear programs. It fails for want of memory; the optima over half-spaces where a pivot of their
 /// program leaves the range, and those with a dual where a row of the dual does; the others where a product of the
-/// objective with a ray or line does, or the optimum, or the row that vanishes at it.
+/// objective with a ray or line does, or the optimum, or the row that vanishes at it. A wide one searches by wide
+/// numbers where a pivot leaves the range, and where these do not suffice it fails as the standard one.
 pub type LpClient = FamilyClient<LpFamily>;
 
 impl Family for LpFamily {
@@ -78,6 +96,10 @@ impl Family for LpFamily {
             LpWork::AtRays(Sense::Minimal) => StandardClient::LpMinV,
             LpWork::AtFace(Sense::Maximal) => StandardClient::LpMaxFace,
             LpWork::AtFace(Sense::Minimal) => StandardClient::LpMinFace,
+            LpWork::OverFacetsWide(Sense::Maximal) => StandardClient::LpMaxWide,
+            LpWork::OverFacetsWide(Sense::Minimal) => StandardClient::LpMinWide,
+            LpWork::OverRowsWide(Sense::Maximal) => StandardClient::LpMaxRowsWide,
+            LpWork::OverRowsWide(Sense::Minimal) => StandardClient::LpMinRowsWide,
         }
     }
 
@@ -88,10 +110,12 @@ impl Family for LpFamily {
         draft: &mut Draft,
     ) -> Result<(), ClientFail> {
         match work {
-            LpWork::OverFacets(sense) => value_with_dual(sense, alloc, view, draft),
-            LpWork::OverRows(sense) => value_from_rows(sense, alloc, view, draft),
+            LpWork::OverFacets(sense) => value_with_dual(sense, alloc, view, draft, false),
+            LpWork::OverRows(sense) => value_from_rows(sense, alloc, view, draft, false),
             LpWork::AtRays(sense) => value_from_rays(sense, alloc, view, draft),
             LpWork::AtFace(sense) => face_at_value(sense, alloc, view, draft),
+            LpWork::OverFacetsWide(sense) => value_with_dual(sense, alloc, view, draft, true),
+            LpWork::OverRowsWide(sense) => value_from_rows(sense, alloc, view, draft, true),
         }
     }
 }

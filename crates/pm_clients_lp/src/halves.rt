@@ -16,14 +16,15 @@ use pm_simplex::Sense;
 use pm_types::{ObjectType, PropId, Value};
 use std::alloc::Global;
 
-/// The optimum: that over INEQUALITIES with x0 >= 0, and EQUATIONS.
+/// The optimum: that over INEQUALITIES with x0 >= 0, and EQUATIONS; by wide numbers too, where these are asked for.
 pub(crate) fn value_from_rows(
     sense: Sense,
     alloc: Global,
     view: &View,
     draft: &mut Draft,
+    wide: bool,
 ) -> Result<(), ClientFail>
-    requires kind { view.now.kind ≡ standard_kind (over_rows sense) }
+    requires kind { view.now.kind ≡ standard_kind (over_rows sense wide) }
     requires empty { draft.old ≡ record { kind = view.now.kind; values = [] } }
     ensures draft { draft.new.kind ≡ draft.old.kind }
     ensures sound { OnOk result (IsSound view.now draft.new) }
@@ -34,19 +35,20 @@ pub(crate) fn value_from_rows(
     let equations = rows_of(alloc, view, PropId::Equations)?;
     let inequalities = rows_of(alloc, view, PropId::Inequalities)?;
     let rows = with_first(alloc, view.cols(), inequalities)?;
-    let value = optimum_over(alloc, sense, &rows, &equations, objective_of(view))?;
+    let value = optimum_over(alloc, sense, &rows, &equations, objective_of(view), wide)?;
     put_number(draft, value_in(sense), value)?;
     Ok(())
 }
 
-/// The optimum over FACETS and AFFINE_HULL, and a dual that shows it.
+/// The optimum over FACETS and AFFINE_HULL, and a dual that shows it; by wide numbers too, where these are asked for.
 pub(crate) fn value_with_dual(
     sense: Sense,
     alloc: Global,
     view: &View,
     draft: &mut Draft,
+    wide: bool,
 ) -> Result<(), ClientFail>
-    requires kind { view.now.kind ≡ standard_kind (over_facets sense) }
+    requires kind { view.now.kind ≡ standard_kind (over_facets sense wide) }
     requires empty { draft.old ≡ record { kind = view.now.kind; values = [] } }
     ensures draft { draft.new.kind ≡ draft.old.kind }
     ensures sound { OnOk result (IsSound view.now draft.new) }
@@ -56,7 +58,7 @@ pub(crate) fn value_with_dual(
     prove!(view.of() == ObjectType::Polytope);
     let equations = rows_of(alloc, view, PropId::AffineHull)?;
     let facets = rows_of(alloc, view, PropId::Facets)?;
-    let found = optimum_with_dual(alloc, sense, &facets, &equations, objective_of(view))?;
+    let found = optimum_with_dual(alloc, sense, &facets, &equations, objective_of(view), wide)?;
     let _ = found.dual.cols();
     put_number(draft, value_in(sense), found.value)?;
     put_value(draft, dual_in(sense), Value::Mat(found.dual))?;

@@ -13,9 +13,10 @@ ghost use Rattle.std.specs.Prelude.{IfErr, IfOk, length, ◌+◌, ◌<◌, ◌^�
 use crate::duals::dual_rows;
 use pm_fraction::Fraction;
 use pm_matrix::Matrix;
-use pm_simplex::{LpAnswer, LpFail, Sense, maximise_by_dictionaries, maximise_rows};
+use pm_simplex::{LpAnswer, LpFail, Sense, maximise_by_dictionaries};
 use pm_types::Number;
 use pm_vector::Ints;
+use pm_wide_programs::maximise_rows_by;
 use std::alloc::Global;
 
 /// An optimum, and the rows of a dual that shows it.
@@ -35,6 +36,7 @@ fn answer_in(
     inequalities: &[Ints],
     equations: &[Ints],
     objective: &[Fraction],
+    wide: bool,
 ) -> Result<LpAnswer, LpFail>
     requires some { 0 < length objective.now }
     requires few { length inequalities.now + length equations.now + length objective.now
@@ -47,7 +49,7 @@ fn answer_in(
         equations.now (objective_in sense objective.now))) }
 {
     let turned = sense.objective(alloc, objective)?;
-    let answer = maximise_rows(alloc, inequalities, equations, &turned)?;
+    let answer = maximise_rows_by(alloc, inequalities, equations, &turned, wide)?;
     Ok(answer)
 }
 
@@ -65,7 +67,7 @@ fn optimum_told(sense: Sense, answer: &LpAnswer) -> Number
 /// The optimum of an objective over the points with first coordinate 1 that half-spaces and equations have, all rows
 /// of as many entries as the objective has:
 /// the greatest value or the least, an infinity where the objective goes on without end, and the other infinity where
-/// there is no point.
+/// there is no point. Where it is asked by wide numbers, these go on where a pivot leaves the range.
 /// `Wide` only where a pivot of their program leaves the range, which the evidence (E3) shows.
 pub fn optimum_over(
     alloc: Global,
@@ -73,6 +75,7 @@ pub fn optimum_over(
     inequalities: &[Ints],
     equations: &[Ints],
     objective: &[Fraction],
+    wide: bool,
 ) -> Result<Number, LpFail>
     requires some { 0 < length objective.now }
     requires few { length inequalities.now + length equations.now + length objective.now
@@ -84,7 +87,7 @@ pub fn optimum_over(
     ensures wide { IfErr result (λ f. IfWide f (ShowsProgram inequalities.now
         equations.now (objective_in sense objective.now))) }
 {
-    let answer = answer_in(alloc, sense, inequalities, equations, objective)?;
+    let answer = answer_in(alloc, sense, inequalities, equations, objective, wide)?;
     Ok(optimum_told(sense, &answer))
 }
 
@@ -135,7 +138,7 @@ fn optimum_by_dictionaries(
     })
 }
 
-/// The same optimum, and the rows of a dual that shows it.
+/// The same optimum, and the rows of a dual that shows it, of whichever answer was found.
 /// `Wide` only where a pivot of the program leaves the range (E3), or a row of the dual of an optimal dictionary
 /// does, or its primitive row (E4).
 pub fn optimum_with_dual(
@@ -144,6 +147,7 @@ pub fn optimum_with_dual(
     inequalities: &[Ints],
     equations: &[Ints],
     objective: &[Fraction],
+    wide: bool,
 ) -> Result<OptimumWithDual, LpFail>
     requires some { 0 < length objective.now }
     requires few { length inequalities.now + length equations.now + length objective.now
@@ -155,7 +159,7 @@ pub fn optimum_with_dual(
     ensures wide { IfErr result (λ f. IfWide f (ShowsOptimum inequalities.now
         equations.now (objective_in sense objective.now))) }
 {
-    let answer = answer_in(alloc, sense, inequalities, equations, objective)?;
+    let answer = answer_in(alloc, sense, inequalities, equations, objective, wide)?;
     match dual_of(alloc, objective.len(), inequalities, &answer) {
         Ok(dual) => Ok(OptimumWithDual {
             value: optimum_told(sense, &answer),

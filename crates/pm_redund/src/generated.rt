@@ -11,8 +11,9 @@ ghost use Rattle.std.specs.Prelude.{IfErr, IfOk, IsTrue, length, pos, true, ◌+
 
 use pm_fraction::Fraction;
 use pm_incidence::ThinFail;
-use pm_simplex::{LpAnswer, LpFail, maximise_rows};
+use pm_simplex::{LpAnswer, LpFail};
 use pm_vector::Ints;
+use pm_wide_programs::maximise_rows_by;
 use std::alloc::{AllocError, Global};
 
 /// A number, and then the entries of a row.
@@ -66,7 +67,8 @@ fn no_objective(alloc: Global, cols: usize) -> Result<Vec<Fraction>, AllocError>
     vec![in alloc; Fraction::zero(); cols]
 }
 
-/// Whether one of the rows, or its opposite, is in the cone of the marked rows and the lines.
+/// Whether one of the rows, or its opposite, is in the cone of the marked rows and the lines; by wide numbers too, where
+/// these are asked for.
 pub(crate) fn is_generated(
     alloc: Global,
     cols: usize,
@@ -75,6 +77,7 @@ pub(crate) fn is_generated(
     marks: &[bool],
     row: &Ints,
     opposed: bool,
+    wide: bool,
 ) -> Result<bool, ThinFail>
     requires row_cols { HasCols cols rows.now }
     requires line_cols { HasCols cols lines.now }
@@ -90,7 +93,7 @@ pub(crate) fn is_generated(
     let kept = lifted_rows(alloc, rows, marks)?;
     let ties = equations(alloc, lines, row, opposed)?;
     let objective = no_objective(alloc, cols + 1)?;
-    match maximise_rows(alloc, &kept, &ties, &objective) {
+    match maximise_rows_by(alloc, &kept, &ties, &objective, wide) {
         Ok(LpAnswer::Infeasible { .. }) => Ok(true),
         Ok(LpAnswer::Optimal { .. }) => Ok(false),
         Ok(LpAnswer::Unbounded { .. }) => Ok(false),

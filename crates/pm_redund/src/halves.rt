@@ -51,6 +51,7 @@ fn thin_halves(
     equations: &[Ints],
     line_marks: &[bool],
     enough: Vec<bool>,
+    wide: bool,
 ) -> Result<Facets, ThinFail>
     requires half_cols { HasCols cols halves.now }
     requires equation_cols { HasCols cols equations.now }
@@ -66,11 +67,11 @@ fn thin_halves(
     ensures echelon { IfOk result (λ f. (P : List ℕ) × IsEchelonBasis cols f.hull.items P) }
     ensures failed { IfErr result (IsHalvesFail cols halves.now equations.now) }
 {
-    let kept = kept_of(alloc, cols, halves, equations, line_marks, enough)?;
+    let kept = kept_of(alloc, cols, halves, equations, line_marks, enough, wide)?;
     if kept.places.len() > MOST_ROWS {
         return Err(too_many(alloc, &kept.places)?);
     }
-    let facets = thinned_rows(alloc, cols, halves, &kept.basis, &kept.places, false)?;
+    let facets = thinned_rows(alloc, cols, halves, &kept.basis, &kept.places, wide)?;
     Ok(Facets {
         facets,
         hull: kept.basis.rows,
@@ -78,6 +79,7 @@ fn thin_halves(
 }
 
 /// All facet rows of a thing among half-spaces that describe it, and the echelon basis of the rows that vanish on it.
+/// Where it is asked by wide numbers, these go on where a number leaves the range.
 /// The facet rows are primitive, with zeros in the pivot columns of that basis, each once and in lexicographic order;
 /// there are at most `MOST_ROWS` of them.
 /// `Wide` only with evidence: E1 on the rows that vanish and then the reduced row, E3 on the program of a half-space.
@@ -88,6 +90,7 @@ pub fn thin_rows(
     cols: usize,
     rows: &[Ints],
     equations: &[Ints],
+    wide: bool,
 ) -> Result<Facets, ThinFail>
     requires no_fan { of ≢ ObjectType.Fan }
     requires row_cols { HasCols cols rows.now }
@@ -105,13 +108,13 @@ pub fn thin_rows(
     ensures failed { IfErr result (IsRowsFail of cols rows.now equations.now) }
 {
     let halves = half_spaces(alloc, of, cols, rows)?;
-    let enough = enough_marks(alloc, cols, &halves, equations)?;
-    let lines = line_marks(alloc, cols, &halves, equations, &enough)?;
+    let enough = enough_marks(alloc, cols, &halves, equations, wide)?;
+    let lines = line_marks(alloc, cols, &halves, equations, &enough, wide)?;
     if of == ObjectType::Polytope && is_last_marked(&lines) {
         return Ok(Facets {
             facets: Vec::new(alloc),
             hull: unit_rows(alloc, cols)?,
         });
     }
-    thin_halves(alloc, cols, &halves, equations, &lines, enough)
+    thin_halves(alloc, cols, &halves, equations, &lines, enough, wide)
 }

@@ -17,6 +17,7 @@ pub(crate) fn enough_marks(
     cols: usize,
     rows: &[Ints],
     lines: &[Ints],
+    wide: bool,
 ) -> Result<Vec<bool>, ThinFail>
     requires row_cols { HasCols cols rows.now }
     requires line_cols { HasCols cols lines.now }
@@ -28,7 +29,7 @@ pub(crate) fn enough_marks(
 {
     let mut marks = Vec::new(alloc);
     for row in rows {
-        let generated = is_generated(alloc, cols, rows, lines, &marks, row, false)?;
+        let generated = is_generated(alloc, cols, rows, lines, &marks, row, false, wide)?;
         marks.push(!generated)?;
     }
     Ok(marks)
@@ -41,6 +42,7 @@ pub(crate) fn line_marks(
     rows: &[Ints],
     lines: &[Ints],
     enough: &[bool],
+    wide: bool,
 ) -> Result<Vec<bool>, ThinFail>
     requires row_cols { HasCols cols rows.now }
     requires line_cols { HasCols cols lines.now }
@@ -53,7 +55,7 @@ pub(crate) fn line_marks(
 {
     let mut marks = Vec::new(alloc);
     for row in rows {
-        let generated = is_generated(alloc, cols, rows, lines, enough, row, true)?;
+        let generated = is_generated(alloc, cols, rows, lines, enough, row, true, wide)?;
         marks.push(generated)?;
     }
     Ok(marks)
@@ -77,6 +79,7 @@ fn thin_at(
     line_marks: &[bool],
     marks: &mut Vec<bool>,
     i: usize,
+    wide: bool,
 ) -> Result<(), ThinFail>
     requires row_cols { HasCols cols rows.now }
     requires line_cols { HasCols cols lines.now }
@@ -93,7 +96,7 @@ fn thin_at(
         return Ok(());
     }
     marks[i] = false;
-    let redundant = is_generated(alloc, cols, rows, lines, marks, &rows[i], false)?;
+    let redundant = is_generated(alloc, cols, rows, lines, marks, &rows[i], false, wide)?;
     marks[i] = !redundant;
     Ok(())
 }
@@ -106,6 +109,7 @@ pub(crate) fn thin_marks(
     lines: &[Ints],
     line_marks: &[bool],
     enough: Vec<bool>,
+    wide: bool,
 ) -> Result<Vec<bool>, ThinFail>
     requires row_cols { HasCols cols rows.now }
     requires line_cols { HasCols cols lines.now }
@@ -120,7 +124,7 @@ pub(crate) fn thin_marks(
 {
     let mut marks = enough;
     for i in 0..rows.len() {
-        thin_at(alloc, cols, rows, lines, line_marks, &mut marks, i)?;
+        thin_at(alloc, cols, rows, lines, line_marks, &mut marks, i, wide)?;
     }
     Ok(marks)
 }

@@ -17,6 +17,7 @@ use std::alloc::Global;
 
 /// All extreme rays of the cone that rays and lines generate, and the echelon basis of its lineality. Rays of a
 /// polytope are taken as those of a cone are.
+/// Where it is asked by wide numbers, these go on where a number leaves the range.
 /// The rays are primitive, with zeros in the pivot columns of that basis, each once and in lexicographic order.
 /// `Wide` only with evidence: E1 on the rows of the lineality and then the reduced row, E3 on the program of a ray;
 /// `Many` never.
@@ -26,6 +27,7 @@ pub fn thin_rays(
     cols: usize,
     rays: &[Ints],
     lineality: &[Ints],
+    wide: bool,
 ) -> Result<Generators, ThinFail>
     requires ray_cols { HasCols cols rays.now }
     requires line_cols { HasCols cols lineality.now }
@@ -39,10 +41,10 @@ pub fn thin_rays(
     ensures echelon { IfOk result (λ g. (P : List ℕ) × IsEchelonBasis cols g.lineality.items P) }
     ensures failed { IfErr result (IsRedundancyFail cols rays.now lineality.now) }
 {
-    let enough = enough_marks(alloc, cols, rays, lineality)?;
-    let lines = line_marks(alloc, cols, rays, lineality, &enough)?;
-    let kept = kept_of(alloc, cols, rays, lineality, &lines, enough)?;
-    let thin = thinned_rows(alloc, cols, rays, &kept.basis, &kept.places, false)?;
+    let enough = enough_marks(alloc, cols, rays, lineality, wide)?;
+    let lines = line_marks(alloc, cols, rays, lineality, &enough, wide)?;
+    let kept = kept_of(alloc, cols, rays, lineality, &lines, enough, wide)?;
+    let thin = thinned_rows(alloc, cols, rays, &kept.basis, &kept.places, wide)?;
     Ok(Generators {
         rays: thin,
         lineality: kept.basis.rows,

@@ -19,6 +19,7 @@ pub(crate) fn kept_of(
     lines: &[Ints],
     line_marks: &[bool],
     enough: Vec<bool>,
+    wide: bool,
 ) -> Result<Kept, ThinFail>
     requires row_cols { HasCols cols rows.now }
     requires line_cols { HasCols cols lines.now }
@@ -34,7 +35,7 @@ pub(crate) fn kept_of(
 {
     let group = with_marked(alloc, lines, rows, line_marks)?;
     let basis = echelon(alloc, &group, cols)?;
-    let marks = thin_marks(alloc, cols, rows, lines, line_marks, enough)?;
+    let marks = thin_marks(alloc, cols, rows, lines, line_marks, enough, wide)?;
     let places = kept_places(alloc, rows, line_marks, &marks)?;
     Ok(Kept { basis, places })
 }

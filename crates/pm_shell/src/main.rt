@@ -105,9 +105,12 @@ fn main(rt: HostRuntime) -> ExitCode {
     box_all!(PlaceClient, PlaceWork, alloc, clients);
     box_all!(LiftClient, LiftWork, alloc, clients);
     box_each!(HullClient, HullWork::wide(), alloc, clients);
+    box_each!(RedundancyClient, RedundancyWork::wide(), alloc, clients);
     box_each!(ThinClient, ThinWork::wide(), alloc, clients);
     box_each!(RowsClient, RowsWork::wide(), alloc, clients);
     box_each!(DimClient, DimWork::wide(), alloc, clients);
+    box_each!(SetsClient, SetsWork::wide(), alloc, clients);
+    box_each!(LpClient, LpWork::wide(), alloc, clients);
     box_each!(PlaceClient, PlaceWork::wide(), alloc, clients);
     box_each!(LiftClient, LiftWork::wide(), alloc, clients);
     let mut source = StdSource::new(rt.stdin());

@@ -189,6 +189,13 @@ table_row client.DdFacetsVWide =
 table_row client.DdVerticesFWide =
     may_fail by_doubling (plain_rule (codes "dd_vertices_f_wide") (Vertices ∷ LinealitySpace ∷ [])
     (Facets ∷ AffineHull ∷ []) 31)
+table_row client.ThinPointsLpWide =
+    may_fail by_programs (plain_rule (codes "thin_points_lp_wide") (Vertices ∷ LinealitySpace ∷ [])
+    (Points ∷ InputLineality ∷ []) 61)
+table_row client.ThinInequalitiesLpWide =
+    may_fail (by_programs ++ facet_count ∷ [])
+    (plain_rule (codes "thin_inequalities_lp_wide") (Facets ∷ AffineHull ∷ [])
+    (Inequalities ∷ Equations ∷ []) 61)
 table_row client.ThinPointsFWide =
     may_fail by_thinning (plain_rule (codes "thin_points_f_wide") (Vertices ∷ LinealitySpace ∷ [])
     (Points ∷ InputLineality ∷ Facets ∷ AffineHull ∷ []) 11)
@@ -216,6 +223,25 @@ table_row client.ConeDimVWide =
 table_row client.ConeDimPointsWide =
     may_fail (eliminates row_list ∷ []) (plain_rule (codes "cone_dim_points_wide") (ConeDim ∷ [])
     (Points ∷ InputLineality ∷ []) 9)
+table_row client.FeasibleLpWide =
+    may_fail (feasibility ∷ products ∷ [])
+    (plain_rule (codes "feasible_lp_wide") (Feasible ∷ []) (Inequalities ∷ Equations ∷ []) 16)
+table_row client.IncidenceWide =
+    plain_rule (codes "incidence_wide") (VerticesInFacets ∷ []) (Vertices ∷ Facets ∷ []) 6
+table_row client.LpMaxWide = may_fail (optimum_over_facets greatest ∷ dual greatest ∷ products ∷ [])
+    (plain_rule (codes "lp_max_wide") (MaximalValue ∷ MaximalDual ∷ [])
+    (Facets ∷ AffineHull ∷ LinearObjective ∷ []) 21)
+table_row client.LpMinWide = may_fail (optimum_over_facets least ∷ dual least ∷ products ∷ [])
+    (plain_rule (codes "lp_min_wide") (MinimalValue ∷ MinimalDual ∷ [])
+    (Facets ∷ AffineHull ∷ LinearObjective ∷ []) 21)
+table_row client.LpMaxRowsWide =
+    may_fail (optimum_over_rows greatest ∷ products ∷ [])
+    (plain_rule (codes "lp_max_rows_wide") (MaximalValue ∷ [])
+    (Inequalities ∷ Equations ∷ LinearObjective ∷ []) 26)
+table_row client.LpMinRowsWide =
+    may_fail (optimum_over_rows least ∷ products ∷ [])
+    (plain_rule (codes "lp_min_rows_wide") (MinimalValue ∷ [])
+    (Inequalities ∷ Equations ∷ LinearObjective ∷ []) 26)
 table_row client.BbFacetsWide =
     may_fail by_placing (plain_rule (codes "bb_facets_wide") (Facets ∷ AffineHull ∷ [])
     (Points ∷ InputLineality ∷ []) 46)
@@ -263,14 +289,17 @@ standard_clients =
     ∷ client.BbFacets ∷ client.BbFacetsV ∷ client.Placing ∷ client.RegularCells ∷ client.Delaunay ∷ []
 
 -- those whose clients answer by wide numbers where the numbers on the way leave the range: each has the targets,
--- sources and ways to fail of the standard one of its name without "_wide", and weighs more
+-- sources and ways to fail of the standard one of its name without "_wide", and weighs more; that of incidence has no
+-- way to fail
 abbrev pub wide_clients : List StandardClient
 wide_clients =
     client.DdVerticesWide ∷ client.DdFacetsWide ∷ client.DdFacetsVWide ∷ client.DdVerticesFWide
+    ∷ client.ThinPointsLpWide ∷ client.ThinInequalitiesLpWide
     ∷ client.ThinPointsFWide ∷ client.ThinInequalitiesVWide ∷ client.VerticesFromSetsWide
     ∷ client.FacetsFromSetsWide ∷ client.LinealityFromFacetsWide ∷ client.HullFromVerticesWide
-    ∷ client.ConeDimVWide ∷ client.ConeDimPointsWide ∷ client.BbFacetsWide ∷ client.BbFacetsVWide
-    ∷ client.PlacingWide ∷ client.RegularCellsWide ∷ client.DelaunayWide ∷ []
+    ∷ client.ConeDimVWide ∷ client.ConeDimPointsWide ∷ client.FeasibleLpWide ∷ client.IncidenceWide
+    ∷ client.LpMaxWide ∷ client.LpMinWide ∷ client.LpMaxRowsWide ∷ client.LpMinRowsWide
+    ∷ client.BbFacetsWide ∷ client.BbFacetsVWide ∷ client.PlacingWide ∷ client.RegularCellsWide ∷ client.DelaunayWide ∷ []
 
 abbrev pub standard_kind : StandardClient → Kind
 standard_kind c = (standard_row c).kind

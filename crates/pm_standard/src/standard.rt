@@ -149,6 +149,10 @@ pub enum StandardClient {
     DdFacetsVWide,
     /// VERTICES and LINEALITY_SPACE from FACETS, AFFINE_HULL, by wide numbers.
     DdVerticesFWide,
+    /// VERTICES and LINEALITY_SPACE from POINTS, INPUT_LINEALITY, by linear programs and wide numbers.
+    ThinPointsLpWide,
+    /// FACETS and AFFINE_HULL from INEQUALITIES, EQUATIONS, by linear programs and wide numbers.
+    ThinInequalitiesLpWide,
     /// VERTICES and LINEALITY_SPACE from POINTS, INPUT_LINEALITY, FACETS, AFFINE_HULL, by wide numbers.
     ThinPointsFWide,
     /// FACETS and AFFINE_HULL from INEQUALITIES, EQUATIONS, VERTICES, LINEALITY_SPACE, by wide numbers.
@@ -165,6 +169,18 @@ pub enum StandardClient {
     ConeDimVWide,
     /// CONE_DIM from POINTS, INPUT_LINEALITY, by wide numbers.
     ConeDimPointsWide,
+    /// FEASIBLE from INEQUALITIES, EQUATIONS, by wide numbers.
+    FeasibleLpWide,
+    /// VERTICES_IN_FACETS from VERTICES, FACETS, by wide numbers.
+    IncidenceWide,
+    /// MAXIMAL_VALUE and MAXIMAL_DUAL from FACETS, AFFINE_HULL, LINEAR_OBJECTIVE, by wide numbers.
+    LpMaxWide,
+    /// MINIMAL_VALUE and MINIMAL_DUAL from FACETS, AFFINE_HULL, LINEAR_OBJECTIVE, by wide numbers.
+    LpMinWide,
+    /// MAXIMAL_VALUE from INEQUALITIES, EQUATIONS, LINEAR_OBJECTIVE, by wide numbers.
+    LpMaxRowsWide,
+    /// MINIMAL_VALUE from INEQUALITIES, EQUATIONS, LINEAR_OBJECTIVE, by wide numbers.
+    LpMinRowsWide,
     /// FACETS and AFFINE_HULL from POINTS, INPUT_LINEALITY, by beneath-beyond and wide numbers.
     BbFacetsWide,
     /// FACETS, AFFINE_HULL and PLACING_TRIANGULATION from VERTICES, LINEALITY_SPACE, by wide numbers.
@@ -209,7 +225,7 @@ macro_rules! rule {
 }
 
 // The standard rules, in the order of the standard book, and after them the wide ones.
-static RULES: [Entry; 82] = [
+static RULES: [Entry; 90] = [
     rule!("dd_vertices": Vertices, LinealitySpace from Inequalities, Equations; 40),
     rule!("dd_facets": Facets, AffineHull from Points, InputLineality; 40),
     rule!("dd_facets_v": Facets, AffineHull from Vertices, LinealitySpace; 30),
@@ -279,6 +295,8 @@ static RULES: [Entry; 82] = [
     rule!("dd_facets_wide": Facets, AffineHull from Points, InputLineality; 41),
     rule!("dd_facets_v_wide": Facets, AffineHull from Vertices, LinealitySpace; 31),
     rule!("dd_vertices_f_wide": Vertices, LinealitySpace from Facets, AffineHull; 31),
+    rule!("thin_points_lp_wide": Vertices, LinealitySpace from Points, InputLineality; 61),
+    rule!("thin_inequalities_lp_wide": Facets, AffineHull from Inequalities, Equations; 61),
     rule!("thin_points_f_wide": Vertices, LinealitySpace from Points, InputLineality, Facets, AffineHull; 11),
     rule!("thin_inequalities_v_wide": Facets, AffineHull from Inequalities, Equations, Vertices, LinealitySpace; 11),
     rule!("vertices_from_sets_wide": Vertices from Facets, AffineHull, VerticesInFacets; 21),
@@ -287,6 +305,12 @@ static RULES: [Entry; 82] = [
     rule!("hull_from_vertices_wide": AffineHull from Vertices, LinealitySpace; 6),
     rule!("cone_dim_v_wide": ConeDim from Vertices, LinealitySpace; 5),
     rule!("cone_dim_points_wide": ConeDim from Points, InputLineality; 9),
+    rule!("feasible_lp_wide": Feasible from Inequalities, Equations; 16),
+    rule!("incidence_wide": VerticesInFacets from Vertices, Facets; 6),
+    rule!("lp_max_wide": MaximalValue, MaximalDual from Facets, AffineHull, LinearObjective; 21),
+    rule!("lp_min_wide": MinimalValue, MinimalDual from Facets, AffineHull, LinearObjective; 21),
+    rule!("lp_max_rows_wide": MaximalValue from Inequalities, Equations, LinearObjective; 26),
+    rule!("lp_min_rows_wide": MinimalValue from Inequalities, Equations, LinearObjective; 26),
     rule!("bb_facets_wide": Facets, AffineHull from Points, InputLineality; 46),
     rule!("bb_facets_v_wide": Facets, AffineHull, PlacingTriangulation from Vertices, LinealitySpace; 36),
     rule!("placing_wide": PlacingTriangulation from Vertices, LinealitySpace; 26),
@@ -369,7 +393,7 @@ impl StandardClient {
     }
 
     /// The clients that answer by wide numbers, in the order of their rules.
-    pub fn wide() -> [StandardClient; 17]
+    pub fn wide() -> [StandardClient; 25]
         ensures { result ≡ wide_clients }
     {
         [
@@ -377,6 +401,8 @@ impl StandardClient {
             Self::DdFacetsWide,
             Self::DdFacetsVWide,
             Self::DdVerticesFWide,
+            Self::ThinPointsLpWide,
+            Self::ThinInequalitiesLpWide,
             Self::ThinPointsFWide,
             Self::ThinInequalitiesVWide,
             Self::VerticesFromSetsWide,
@@ -385,6 +411,12 @@ impl StandardClient {
             Self::HullFromVerticesWide,
             Self::ConeDimVWide,
             Self::ConeDimPointsWide,
+            Self::FeasibleLpWide,
+            Self::IncidenceWide,
+            Self::LpMaxWide,
+            Self::LpMinWide,
+            Self::LpMaxRowsWide,
+            Self::LpMinRowsWide,
             Self::BbFacetsWide,
             Self::BbFacetsVWide,
             Self::PlacingWide,

@@ -1,6 +1,6 @@
 //! Tests of what no reply of the program shows: cells of sites, a placing triangulation, sums and refinements, the
-//! checker of tables, wide numbers, sources and stores in memory, and the texts of errors. It knows nothing of
-//! sessions, and nothing stands on it.
+//! checker of tables, a linear program by wide numbers, these numbers themselves, sources and stores in memory, and
+//! the texts of errors. It knows nothing of sessions, and nothing stands on it.
 #![tactic(auto)]
 
 #[cfg(test)]
@@ -13,6 +13,8 @@ mod numbers;
 mod placing;
 #[cfg(test)]
 mod plans;
+#[cfg(test)]
+mod programs;
 #[cfg(test)]
 mod rows;
 #[cfg(test)]

@@ -3,21 +3,21 @@ use Rattle.pm_clients_geom.proofs.points.is_feasible.Goals as goal
 use Rattle.pm_redund.proofs.Lifted.{objective_length}
 use Rattle.std.proofs.Common.{arith, false, refl, true, ◌≡◌}
 
-pub maximise_rows-requires-clause-some : goal.maximise_rows-requires-clause-some
-maximise_rows-requires-clause-some c = rw (c.deref.ensures.value, c.in_ok-objective.ensures, objective_length c.args.cols) c.requires.some_columns
+pub maximise_rows_by-requires-clause-some : goal.maximise_rows_by-requires-clause-some
+maximise_rows_by-requires-clause-some c = rw (c.deref.ensures.value, c.in_ok-objective.ensures, objective_length c.args.cols) c.requires.some_columns
 
-pub maximise_rows-requires-clause-few : goal.maximise_rows-requires-clause-few
-maximise_rows-requires-clause-few c =
+pub maximise_rows_by-requires-clause-few : goal.maximise_rows_by-requires-clause-few
+maximise_rows_by-requires-clause-few c =
     let f = c.requires.few_inequalities in
     let g = c.requires.few_equations in
     let h = c.requires.few_columns in
     rw (c.deref.ensures.value, c.in_ok-objective.ensures, objective_length c.args.cols) (omega arith)
 
-pub maximise_rows-requires-clause-inequality_cols : goal.maximise_rows-requires-clause-inequality_cols
-maximise_rows-requires-clause-inequality_cols c = rw (c.deref.ensures.value, c.in_ok-objective.ensures, objective_length c.args.cols) c.requires.inequality_cols
+pub maximise_rows_by-requires-clause-inequality_cols : goal.maximise_rows_by-requires-clause-inequality_cols
+maximise_rows_by-requires-clause-inequality_cols c = rw (c.deref.ensures.value, c.in_ok-objective.ensures, objective_length c.args.cols) c.requires.inequality_cols
 
-pub maximise_rows-requires-clause-equation_cols : goal.maximise_rows-requires-clause-equation_cols
-maximise_rows-requires-clause-equation_cols c = rw (c.deref.ensures.value, c.in_ok-objective.ensures, objective_length c.args.cols) c.requires.equation_cols
+pub maximise_rows_by-requires-clause-equation_cols : goal.maximise_rows_by-requires-clause-equation_cols
+maximise_rows_by-requires-clause-equation_cols c = rw (c.deref.ensures.value, c.in_ok-objective.ensures, objective_length c.args.cols) c.requires.equation_cols
 
 pub returns-in-Ok-Infeasible-clause-found : goal.returns-in-Ok-Infeasible-clause-found
 returns-in-Ok-Infeasible-clause-found c =

@@ -9,7 +9,7 @@ use Rattle.pm_clients_geom.proofs.redundancy.thin_inequalities_lp.Goals as goal
 use Rattle.pm_props.specs.Properties.{facets_tag}
 use Rattle.pm_props.specs.declared.property.PropId.TheVariants.{AffineHull, Equations, Facets, Inequalities}
 use Rattle.pm_props.specs.declared.property.PropId.{PropId}
-use Rattle.std.proofs.Common.{ap, refl, subst, sym, ◌∙◌}
+use Rattle.std.proofs.Common.{refl, subst, sym, ◌∙◌}
 use Rattle.std.proofs.lemmas.Result.{err_from_is_err_and}
 use Rattle.std.specs.Prelude.{List, [], ◌∷◌}
 
@@ -20,21 +20,21 @@ abbrev targets : List PropId
 targets = Facets ∷ AffineHull ∷ []
 
 pub read_parts-requires-clause-first : goal.read_parts-requires-clause-first
-read_parts-requires-clause-first c = has_listed _ sources Equations (ap (λ k. k.sources) c.requires.kind)
+read_parts-requires-clause-first c = has_listed _ sources Equations c.requires.kind.sources
 
 pub read_parts-requires-clause-second : goal.read_parts-requires-clause-second
-read_parts-requires-clause-second c = has_listed _ sources Inequalities (ap (λ k. k.sources) c.requires.kind)
+read_parts-requires-clause-second c = has_listed _ sources Inequalities c.requires.kind.sources
 
 pub thin_rows-requires-clause-no_fan : goal.thin_rows-requires-clause-no_fan
 thin_rows-requires-clause-no_fan c = λ fan.
-    not_fan c.args.view.now Inequalities c.of.ensures.view (source_named c.args.view.now.kind Inequalities (has_listed _ sources Inequalities (ap (λ k. k.sources) c.requires.kind))) refl refl (sym c.of.ensures.value ∙ fan)
+    not_fan c.args.view.now Inequalities c.of.ensures.view (source_named c.args.view.now.kind Inequalities (has_listed _ sources Inequalities c.requires.kind.sources)) refl refl (sym c.of.ensures.value ∙ fan)
 
 pub returns-in_err-found-clause-failed : goal.returns-in_err-found-clause-failed
 returns-in_err-found-clause-failed c =
     let v = c.args.view.now in
     let w = err_from_is_err_and c.from_residual-in_err-found.result c.from_residual-in_err-found.ensures.1 in
     rw w.1 (subst (FailsRightly v) (sym w.2)
-    (fails_by_thin_rows v c.requires.kind c.in_ok-halves.halves.first.items c.in_ok-halves.halves.second.items
+    (fails_by_thin_rows v c.requires.kind.programs c.requires.kind.lists c.requires.kind.counts c.in_ok-halves.halves.first.items c.in_ok-halves.halves.second.items
     (first_rows_of c.in_ok-halves.ensures.read) (second_rows_of c.in_ok-halves.ensures.read)
     c.in_err-found.field-0.0
     (rw (c.of.ensures.value, c.deref.ensures.value, c.deref-2.ensures.value, c.cols.ensures.value) at c.in_err-found.ensures.failed)))
@@ -51,8 +51,8 @@ pub returns-clause-sound : goal.returns-clause-sound
 returns-clause-sound c =
     let v = c.args.view.now in
     let view = c.cols.ensures.view in
-    let targets_are = ap (λ k. k.targets) c.requires.kind in
-    let sources_are = ap (λ k. k.sources) c.requires.kind in
+    let targets_are = c.requires.kind.targets in
+    let sources_are = c.requires.kind.sources in
     let no_fan = not_fan v Inequalities view (source_named v.kind Inequalities (has_listed _ sources Inequalities sources_are)) refl refl in
     let fresh = fresh_kind facets_tag v.kind targets sources Facets targets_are sources_are refl refl refl in
     let g = rw (c.of.ensures.value, c.deref.ensures.value, c.deref-2.ensures.value, c.cols.ensures.value) at c.in_ok-found.ensures.facets in

@@ -7,7 +7,7 @@ use Rattle.pm_clients_geom.proofs.redundancy.thin_points_lp.Goals as goal
 use Rattle.pm_props.specs.Properties.{rays_tag}
 use Rattle.pm_props.specs.declared.property.PropId.TheVariants.{InputLineality, LinealitySpace, Points, Vertices}
 use Rattle.pm_props.specs.declared.property.PropId.{PropId}
-use Rattle.std.proofs.Common.{arith, ap, refl, subst, sym, ◌∙◌}
+use Rattle.std.proofs.Common.{arith, refl, subst, sym, ◌∙◌}
 use Rattle.std.proofs.lemmas.Result.{err_from_is_err_and}
 use Rattle.std.specs.Prelude.{List, [], ◌∷◌}
 
@@ -18,17 +18,17 @@ abbrev targets : List PropId
 targets = Vertices ∷ LinealitySpace ∷ []
 
 pub read_parts-requires-clause-first : goal.read_parts-requires-clause-first
-read_parts-requires-clause-first c = has_listed _ sources InputLineality (ap (λ k. k.sources) c.requires.kind)
+read_parts-requires-clause-first c = has_listed _ sources InputLineality c.requires.kind.sources
 
 pub read_parts-requires-clause-second : goal.read_parts-requires-clause-second
-read_parts-requires-clause-second c = has_listed _ sources Points (ap (λ k. k.sources) c.requires.kind)
+read_parts-requires-clause-second c = has_listed _ sources Points c.requires.kind.sources
 
 pub returns-in_err-found-clause-failed : goal.returns-in_err-found-clause-failed
 returns-in_err-found-clause-failed c =
     let v = c.args.view.now in
     let w = err_from_is_err_and c.from_residual-in_err-found.result c.from_residual-in_err-found.ensures.1 in
     rw w.1 (subst (FailsRightly v) (sym w.2)
-    (fails_by_thin_rays v c.requires.kind c.in_ok-points.points.first.items c.in_ok-points.points.second.items
+    (fails_by_thin_rays v c.requires.kind.programs c.requires.kind.lists c.in_ok-points.points.first.items c.in_ok-points.points.second.items
     (parts_of_generators v InputLineality Points c.in_ok-points.points.first.items c.in_ok-points.points.second.items refl refl c.in_ok-points.ensures.read)
     c.in_err-found.field-0.0
     (rw (c.deref.ensures.value, c.deref-2.ensures.value, c.cols.ensures.value) at c.in_err-found.ensures.failed)))
@@ -48,8 +48,8 @@ pub returns-clause-sound : goal.returns-clause-sound
 returns-clause-sound c =
     let v = c.args.view.now in
     let view = c.cols.ensures.view in
-    let targets_are = ap (λ k. k.targets) c.requires.kind in
-    let sources_are = ap (λ k. k.sources) c.requires.kind in
+    let targets_are = c.requires.kind.targets in
+    let sources_are = c.requires.kind.sources in
     let no_fan = not_fan v Points view (source_named v.kind Points (has_listed _ sources Points sources_are)) refl refl in
     let fresh = fresh_kind rays_tag v.kind targets sources Vertices targets_are sources_are refl refl refl in
     let g = rw (c.deref.ensures.value, c.deref-2.ensures.value, c.cols.ensures.value) at c.in_ok-found.ensures.generators in

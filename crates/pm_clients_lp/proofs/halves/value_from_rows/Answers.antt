@@ -21,16 +21,16 @@ pub prove-unreachable-requires : goal.prove-unreachable-requires
 prove-unreachable-requires c =
     let v = c.args.view.now in
     let other : ¬ (c.of.result ≡ Polytope) = search rules in
-    other (c.of.ensures.value ∙ program_view v c.of.ensures.view (has_listed _ row_sources LinearObjective (rows_read v.kind c.args.sense c.requires.kind)))
+    other (c.of.ensures.value ∙ program_view v c.of.ensures.view (has_listed _ row_sources LinearObjective (rows_read v.kind c.args.sense c.args.wide c.requires.kind)))
 
 pub rows_of-requires-clause-source : goal.rows_of-requires-clause-source
-rows_of-requires-clause-source c = has_listed _ row_sources Equations (rows_read c.args.view.now.kind c.args.sense c.requires.kind)
+rows_of-requires-clause-source c = has_listed _ row_sources Equations (rows_read c.args.view.now.kind c.args.sense c.args.wide c.requires.kind)
 
 pub rows_of-requires-2-clause-source : goal.rows_of-requires-2-clause-source
-rows_of-requires-2-clause-source c = has_listed _ row_sources Inequalities (rows_read c.args.view.now.kind c.args.sense c.requires.kind)
+rows_of-requires-2-clause-source c = has_listed _ row_sources Inequalities (rows_read c.args.view.now.kind c.args.sense c.args.wide c.requires.kind)
 
 pub objective_of-requires : goal.objective_of-requires
-objective_of-requires c = has_listed _ row_sources LinearObjective (rows_read c.args.view.now.kind c.args.sense c.requires.kind)
+objective_of-requires c = has_listed _ row_sources LinearObjective (rows_read c.args.view.now.kind c.args.sense c.args.wide c.requires.kind)
 
 pub optimum_over-requires-clause-some : goal.optimum_over-requires-clause-some
 optimum_over-requires-clause-some c = objective_some c.args.view.now c.of.ensures.view c.objective_of.result.now c.objective_of.ensures
@@ -59,7 +59,7 @@ optimum_over-requires-clause-equation_cols c =
     rw (c.deref-2.ensures.value, objective_cols v c.of.ensures.view c.objective_of.result.now c.objective_of.ensures) (rows_cols v c.of.ensures.view Equations refl c.in_ok-equations.equations.items c.in_ok-equations.ensures.read)
 
 pub put_number-requires-clause-target : goal.put_number-requires-clause-target
-put_number-requires-clause-target c = rw c.value_in.ensures (has_optimum _ c.args.sense [] (ap (λ d. d.kind.targets) c.requires.empty ∙ rows_found c.args.view.now.kind c.args.sense c.requires.kind))
+put_number-requires-clause-target c = rw c.value_in.ensures (has_optimum _ c.args.sense [] (ap (λ d. d.kind.targets) c.requires.empty ∙ rows_found c.args.view.now.kind c.args.sense c.args.wide c.requires.kind))
 
 pub returns-clause-sound : goal.returns-clause-sound
 returns-clause-sound c =
@@ -67,22 +67,22 @@ returns-clause-sound c =
     rows_sound v c.of.ensures.view c.objective_of.result.now c.objective_of.ensures c.args.sense c.in_ok-equations.equations.items c.in_ok-inequalities.inequalities.items (extended_of c.in_ok-value.value)
     c.in_ok-equations.ensures.read c.in_ok-inequalities.ensures.read (rw (c.deref.ensures.value, c.deref-2.ensures.value, c.in_ok-rows.ensures, c.cols.ensures.value) at c.in_ok-value.ensures.value)
     c.in_ok-put_number.ensures.fraction c.args.draft.now c.put_number.new.draft
-    (record { targets = rows_found v.kind c.args.sense c.requires.kind; empty = c.requires.empty; put = rw c.value_in.ensures at c.in_ok-put_number.ensures.ok })
+    (record { targets = rows_found v.kind c.args.sense c.args.wide c.requires.kind; empty = c.requires.empty; put = rw c.value_in.ensures at c.in_ok-put_number.ensures.ok })
 
 pub returns-in_err-value-clause-fails : goal.returns-in_err-value-clause-fails
 returns-in_err-value-clause-fails c =
     let v = c.args.view.now in
-    let polytope = program_view v c.of.ensures.view (has_listed _ row_sources LinearObjective (rows_read v.kind c.args.sense c.requires.kind)) in
+    let polytope = program_view v c.of.ensures.view (has_listed _ row_sources LinearObjective (rows_read v.kind c.args.sense c.args.wide c.requires.kind)) in
     let w = err_from_is_err_and c.from_residual-in_err-value.result c.from_residual-in_err-value.ensures.1 in
     rw w.1 (subst (FailsBy (IsWideOptimum v)) (sym w.2)
-    (rows_fail v c.args.sense c.objective_of.result.now c.objective_of.ensures c.in_err-value.field-0.0 c.requires.kind polytope c.in_ok-equations.equations.items c.in_ok-inequalities.inequalities.items
+    (rows_fail v c.args.sense c.objective_of.result.now c.objective_of.ensures c.in_err-value.field-0.0 c.args.wide c.requires.kind polytope c.in_ok-equations.equations.items c.in_ok-inequalities.inequalities.items
     c.in_ok-equations.ensures.read c.in_ok-inequalities.ensures.read (rw (c.deref.ensures.value, c.deref-2.ensures.value, c.in_ok-rows.ensures, c.cols.ensures.value) at c.in_err-value.ensures.wide)))
 
 pub returns-in_err-value-clause-failed : goal.returns-in_err-value-clause-failed
 returns-in_err-value-clause-failed c =
     let v = c.args.view.now in
-    let polytope = program_view v c.of.ensures.view (has_listed _ row_sources LinearObjective (rows_read v.kind c.args.sense c.requires.kind)) in
+    let polytope = program_view v c.of.ensures.view (has_listed _ row_sources LinearObjective (rows_read v.kind c.args.sense c.args.wide c.requires.kind)) in
     let w = err_from_is_err_and c.from_residual-in_err-value.result c.from_residual-in_err-value.ensures.1 in
     rw w.1 (subst (FailsRightly v) (sym w.2) (fails_rightly v (IsWideOptimum v) (optimum_holds v) (fail_of_program c.in_err-value.field-0.0)
-    (rows_fail v c.args.sense c.objective_of.result.now c.objective_of.ensures c.in_err-value.field-0.0 c.requires.kind polytope c.in_ok-equations.equations.items c.in_ok-inequalities.inequalities.items
+    (rows_fail v c.args.sense c.objective_of.result.now c.objective_of.ensures c.in_err-value.field-0.0 c.args.wide c.requires.kind polytope c.in_ok-equations.equations.items c.in_ok-inequalities.inequalities.items
     c.in_ok-equations.ensures.read c.in_ok-inequalities.ensures.read (rw (c.deref.ensures.value, c.deref-2.ensures.value, c.in_ok-rows.ensures, c.cols.ensures.value) at c.in_err-value.ensures.wide))))

@@ -19,16 +19,16 @@ pub prove-unreachable-requires : goal.prove-unreachable-requires
 prove-unreachable-requires c =
     let v = c.args.view.now in
     let other : ¬ (c.of.result ≡ Polytope) = search rules in
-    other (c.of.ensures.value ∙ program_view v c.of.ensures.view (has_listed _ facet_sources LinearObjective (facets_read v.kind c.args.sense c.requires.kind)))
+    other (c.of.ensures.value ∙ program_view v c.of.ensures.view (has_listed _ facet_sources LinearObjective (facets_read v.kind c.args.sense c.args.wide c.requires.kind)))
 
 pub rows_of-requires-clause-source : goal.rows_of-requires-clause-source
-rows_of-requires-clause-source c = has_listed _ facet_sources AffineHull (facets_read c.args.view.now.kind c.args.sense c.requires.kind)
+rows_of-requires-clause-source c = has_listed _ facet_sources AffineHull (facets_read c.args.view.now.kind c.args.sense c.args.wide c.requires.kind)
 
 pub rows_of-requires-2-clause-source : goal.rows_of-requires-2-clause-source
-rows_of-requires-2-clause-source c = has_listed _ facet_sources Facets (facets_read c.args.view.now.kind c.args.sense c.requires.kind)
+rows_of-requires-2-clause-source c = has_listed _ facet_sources Facets (facets_read c.args.view.now.kind c.args.sense c.args.wide c.requires.kind)
 
 pub objective_of-requires : goal.objective_of-requires
-objective_of-requires c = has_listed _ facet_sources LinearObjective (facets_read c.args.view.now.kind c.args.sense c.requires.kind)
+objective_of-requires c = has_listed _ facet_sources LinearObjective (facets_read c.args.view.now.kind c.args.sense c.args.wide c.requires.kind)
 
 pub optimum_with_dual-requires-clause-some : goal.optimum_with_dual-requires-clause-some
 optimum_with_dual-requires-clause-some c = objective_some c.args.view.now c.of.ensures.view c.objective_of.result.now c.objective_of.ensures
@@ -58,7 +58,7 @@ returns-in_err-found-clause-fails c =
     let v = c.args.view.now in
     let w = err_from_is_err_and c.from_residual-in_err-found.result c.from_residual-in_err-found.ensures.1 in
     rw w.1 (subst (FailsBy (IsWideWithDual v)) (sym w.2)
-    (facets_fail v c.args.sense c.objective_of.result.now c.objective_of.ensures c.in_err-found.field-0.0 c.requires.kind c.in_ok-equations.equations.items c.in_ok-facets.facets.items
+    (facets_fail v c.args.sense c.objective_of.result.now c.objective_of.ensures c.in_err-found.field-0.0 c.args.wide c.requires.kind c.in_ok-equations.equations.items c.in_ok-facets.facets.items
     c.in_ok-equations.ensures.read c.in_ok-facets.ensures.read (rw (c.deref.ensures.value, c.deref-2.ensures.value) at c.in_err-found.ensures.wide)))
 
 pub returns-in_err-found-clause-failed : goal.returns-in_err-found-clause-failed
@@ -66,16 +66,16 @@ returns-in_err-found-clause-failed c =
     let v = c.args.view.now in
     let w = err_from_is_err_and c.from_residual-in_err-found.result c.from_residual-in_err-found.ensures.1 in
     rw w.1 (subst (FailsRightly v) (sym w.2) (fails_rightly v (IsWideWithDual v) (dual_holds v) (fail_of_program c.in_err-found.field-0.0)
-    (facets_fail v c.args.sense c.objective_of.result.now c.objective_of.ensures c.in_err-found.field-0.0 c.requires.kind c.in_ok-equations.equations.items c.in_ok-facets.facets.items
+    (facets_fail v c.args.sense c.objective_of.result.now c.objective_of.ensures c.in_err-found.field-0.0 c.args.wide c.requires.kind c.in_ok-equations.equations.items c.in_ok-facets.facets.items
     c.in_ok-equations.ensures.read c.in_ok-facets.ensures.read (rw (c.deref.ensures.value, c.deref-2.ensures.value) at c.in_err-found.ensures.wide))))
 
 pub put_number-requires-clause-target : goal.put_number-requires-clause-target
 put_number-requires-clause-target c =
-    rw c.value_in.ensures (has_optimum _ c.args.sense (dual c.args.sense ∷ []) (ap (λ d. d.kind.targets) c.requires.empty ∙ facets_found c.args.view.now.kind c.args.sense c.requires.kind))
+    rw c.value_in.ensures (has_optimum _ c.args.sense (dual c.args.sense ∷ []) (ap (λ d. d.kind.targets) c.requires.empty ∙ facets_found c.args.view.now.kind c.args.sense c.args.wide c.requires.kind))
 
 pub put_value-requires-clause-target : goal.put_value-requires-clause-target
 put_value-requires-clause-target c =
-    rw c.dual_in.ensures (has_dual _ c.args.sense (ap (λ d. d.kind.targets) c.in_ok-put_number.ensures.ok ∙ ap (λ d. d.kind.targets) c.requires.empty ∙ facets_found c.args.view.now.kind c.args.sense c.requires.kind))
+    rw c.dual_in.ensures (has_dual _ c.args.sense (ap (λ d. d.kind.targets) c.in_ok-put_number.ensures.ok ∙ ap (λ d. d.kind.targets) c.requires.empty ∙ facets_found c.args.view.now.kind c.args.sense c.args.wide c.requires.kind))
 
 pub put_value-requires-clause-missing : goal.put_value-requires-clause-missing
 put_value-requires-clause-missing c =
@@ -93,7 +93,7 @@ returns-clause-sound c =
     c.in_ok-equations.ensures.read c.in_ok-facets.ensures.read c.in_ok-found.found.dual (rw (c.deref.ensures.value, c.deref-2.ensures.value) at c.in_ok-found.ensures.found)
     few c.cols.ensures.matrix c.in_ok-put_number.ensures.fraction c.args.draft.now c.put_number.new.draft c.put_value.new.draft
     (record {
-      targets = facets_found v.kind c.args.sense c.requires.kind;
+      targets = facets_found v.kind c.args.sense c.args.wide c.requires.kind;
       empty = c.requires.empty;
       value = rw c.value_in.ensures at c.in_ok-put_number.ensures.ok;
       shown = rw c.dual_in.ensures at c.in_ok-put_value.ensures.ok;

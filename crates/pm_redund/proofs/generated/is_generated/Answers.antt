@@ -5,8 +5,8 @@ use Rattle.pm_redund.proofs.generated.is_generated.Goals as goal
 use Rattle.pm_geom.specs.StatedOrder.{rows_marked}
 use Rattle.std.proofs.Common.{arith, false, refl, true, ◌+◌, ◌≡◌}
 
-pub maximise_rows-requires-clause-few : goal.maximise_rows-requires-clause-few
-maximise_rows-requires-clause-few c =
+pub maximise_rows_by-requires-clause-few : goal.maximise_rows_by-requires-clause-few
+maximise_rows_by-requires-clause-few c =
     let K = rows_marked true c.args.marks.now c.args.rows.now in
     let a = lifted_length K in
     let b = marked_few c.args.marks.now c.args.rows.now in
@@ -17,12 +17,12 @@ maximise_rows-requires-clause-few c =
     let h = c.requires.few_columns in
     rw (c.deref.ensures.value, c.deref-2.ensures.value, c.deref-3.ensures.value, c.in_ok-kept.ensures, c.in_ok-ties.ensures, c.in_ok-objective.ensures) (omega arith)
 
-pub maximise_rows-requires-clause-inequality_cols : goal.maximise_rows-requires-clause-inequality_cols
-maximise_rows-requires-clause-inequality_cols c =
+pub maximise_rows_by-requires-clause-inequality_cols : goal.maximise_rows_by-requires-clause-inequality_cols
+maximise_rows_by-requires-clause-inequality_cols c =
     rw (c.deref.ensures.value, c.deref-3.ensures.value, c.in_ok-kept.ensures, c.in_ok-objective.ensures, objective_length (c.args.cols + 1)) (lifted_cols c.args.cols (rows_marked true c.args.marks.now c.args.rows.now) (marked_cols c.args.cols c.args.marks.now c.args.rows.now c.requires.row_cols))
 
-pub maximise_rows-requires-clause-equation_cols : goal.maximise_rows-requires-clause-equation_cols
-maximise_rows-requires-clause-equation_cols c =
+pub maximise_rows_by-requires-clause-equation_cols : goal.maximise_rows_by-requires-clause-equation_cols
+maximise_rows_by-requires-clause-equation_cols c =
     rw (c.deref-2.ensures.value, c.deref-3.ensures.value, c.in_ok-ties.ensures, c.in_ok-objective.ensures, objective_length (c.args.cols + 1)) (equations_cols c.args.cols c.args.lines.now c.args.opposed c.args.row.now c.requires.line_cols (listed_cols c.args.cols c.args.rows.now c.args.row.now c.requires.row_cols c.requires.listed))
 
 pub returns-in-Ok-Infeasible-clause-generated : goal.returns-in-Ok-Infeasible-clause-generated
