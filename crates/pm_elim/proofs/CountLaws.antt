@@ -4,6 +4,7 @@ use Rattle.pm_vector.specs.Rows.{Row}
 use Rattle.pm_vector.proofs.Columns.{basis_is_independent, column_found}
 use Rattle.pm_vector.proofs.Rank.{independent_are_few}
 use Rattle.pm_vector.proofs.Spans.{span_at, span_from, span_to}
+use Rattle.pm_vector.proofs.Unique.{at_most}
 use Rattle.pm_vector.specs.Bases.{IsEchelonBasis, column, row_at}
 use Rattle.pm_elim.proofs.ExtendedLaws.{combination_last, first_entry}
 use Rattle.pm_elim.proofs.InTurn.{pivot_below}
@@ -14,30 +15,7 @@ use Rattle.pm_elim.specs.ExtendedLists.{AreTails, IsExtendedBasis}
 use Rattle.std.proofs.Common.{ap, arith, inl, inr, sym, ◌∙◌}
 use Rattle.std.proofs.lemmas.Bool.{cases_eq, cases_lt}
 use Rattle.std.proofs.lemmas.List.{length-drop, length-map}
-use Rattle.std.specs.Prelude.{List, length, suc, zero, ℕ, ◌+◌, ◌-◌, ◌<◌, ◌≡◌, ◌≤◌}
-
--- ---- ascending numbers among ascending numbers
-module _ (a b : ℕ → ℕ) (m m' : ℕ) (up : (i j : ℕ) → i < j → j < m → a i < a j) (up' : (i j : ℕ) → i < j → j < m' → b i < b j) (cover : (i : ℕ) → i < m → (j : ℕ) × (j < m') × (b j ≡ a i)) where
-  at_least : (i j : ℕ) → i < m → j < m' → b j ≡ a i → i ≤ j
-  at_least zero j li lj e = omega arith
-  at_least (suc i) j li lj e =
-      let w = cover i (omega arith) in
-      let h = at_least i w.0 (omega arith) w.1 w.2 in
-      let g = up i (suc i) (omega arith) li in
-      let k = w.2 in
-      elim (cases_lt w.0 j) [
-        | inl l ↦ omega arith
-        | inr nl ↦ absurd (elim (cases_eq w.0 j) [
-          | inl q ↦ (let r = ap b q in omega arith)
-          | inr nq ↦ (let r = up' j w.0 (omega arith) w.1 in omega arith)
-        ])
-      ]
-
-  pub at_most : m ≤ m'
-  at_most = elim (cases_eq m 0) [
-    | inl e ↦ omega arith
-    | inr ne ↦ (let w = cover (m - 1) (omega arith) in let l = w.1 in let h = at_least (m - 1) w.0 (omega arith) w.1 w.2 in omega arith)
-  ]
+use Rattle.std.specs.Prelude.{List, length, ℕ, ◌+◌, ◌-◌, ◌<◌, ◌≡◌, ◌≤◌}
 
 -- ---- the extended list
 module _ (n : ℕ) (B : List Row) (P : List ℕ) (X E : List Row) (Q : List ℕ) (e : IsEchelonBasis n B P) (x : IsExtended n B X) (b : IsBasisOf (length B + n) X E Q) where

@@ -13,7 +13,7 @@ use Rattle.pm_vector.proofs.Unique.{echelon_is_unique}
 use Rattle.pm_vector.proofs.Rank.{independent_are_few}
 use Rattle.pm_vector.proofs.Spans.{at_place, place_of, same_span, span_at, span_from}
 use Rattle.pm_vector.specs.Bases.{column, row_at}
-use Rattle.pm_elim.proofs.CountLaws.{at_most}
+use Rattle.pm_vector.proofs.Unique.{at_most}
 use Rattle.pm_elim.specs.Duals.{DualBasisIsUnique, IsDualBasis, IsDualRow}
 use Rattle.pm_elim.specs.Evidence.{IsBasisOf}
 use Rattle.pm_elim.specs.NullSpaces.{IsNull, IsNullBasis}

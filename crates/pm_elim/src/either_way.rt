@@ -6,10 +6,10 @@ ghost use Rattle.pm_vector.specs.Rows.{HasCols, entry};
 ghost use Rattle.pm_vector.specs.Bases.{IsRank, column};
 ghost use Rattle.pm_elim.specs.Duals.{IfDependent, IfDualWide, IsDualBasis};
 ghost use Rattle.pm_elim.specs.Enlarging.{MarkEnlarging};
-ghost use Rattle.pm_elim.specs.Evidence.{IfWide, IsBasisOf, IsEvidence};
+ghost use Rattle.pm_elim.specs.Evidence.{IfWide, IsBasisOf, IsEvidence, NoEvidence};
 ghost use Rattle.pm_elim.specs.NullSpaces.{IsNullBasis};
 ghost use Rattle.pm_elim.specs.Steps.{ReducedBy, SameDirectionModulo};
-ghost use Rattle.std.specs.Prelude.{IfErr, IfOk, List, [], length, pos, ◌++◌, ◌<◌, ◌^◌, ◌∷◌, ◌≡◌, ◌⊎◌, ℕ};
+ghost use Rattle.std.specs.Prelude.{IfErr, IfOk, List, OnOk, [], false, length, pos, ◌++◌, ◌<◌, ◌^◌, ◌∷◌, ◌≡◌, ◌⊎◌, ℕ};
 
 use crate::basis::Echelon;
 use crate::duals::dual_basis;
@@ -56,6 +56,7 @@ pub fn rank_by(alloc: Global, rows: &[Ints], cols: usize, wide: bool) -> Result<
     requires few_rows { length rows.now < 2 ^ 32 }
     requires few_columns { cols < 2 ^ 31 }
     ensures rank { IfOk result (λ k. IsRank rows.now k) }
+    ensures never_wide { wide ≡ false → OnOk result (NoEvidence cols rows.now ElimList.Rows) }
     ensures wide { IfErr result (λ f. IfWide f (λ e. IsEvidence cols rows.now e)) }
     ensures list { IfErr result (λ f. IfWide f (λ e. e.list ≡ ElimList.Rows)) }
 {
@@ -110,6 +111,8 @@ pub fn null_space_by(
     requires few_rows { length rows.now < 2 ^ 32 }
     requires few_columns { cols < 2 ^ 31 }
     ensures null { IfOk result (λ v. (P : List ℕ) × IsNullBasis cols rows.now v.items P) }
+    ensures never_wide { wide ≡ false → OnOk result (NoEvidence cols rows.now ElimList.Rows) }
+    ensures never_wide_extended { wide ≡ false → OnOk result (NoEvidence cols rows.now ElimList.Extended) }
     ensures wide { IfErr result (λ f. IfWide f (λ e. IsEvidence cols rows.now e)) }
     ensures list { IfErr result (λ f.
         IfWide f (λ e. (e.list ≡ ElimList.Rows) ⊎ (e.list ≡ ElimList.Extended))) }

@@ -12,7 +12,7 @@ use crate::basis::Growing;
 use crate::pivot::{pivot_of, pivot_row};
 use crate::round::place_of;
 use crate::step::{factors_at, is_zero_at};
-use pm_vector::{Ints, Wide, combine_primitive};
+use pm_vector::{Ints, Wide, WideInt, combine_primitive};
 use std::alloc::{AllocError, AllocFailed, Global};
 use thiserror::Error;
 
@@ -44,7 +44,7 @@ fn wide_difference(alloc: Global, p: i128, row: &Ints, q: i128, by: &Ints) -> Re
     ensures { IfOk result (λ w. IsPrimitiveOf (difference p row.now q by.now) w) }
 {
     let mut entries = row.copy(alloc)?.into_vec();
-    match combine_primitive(p, &mut entries, q, by.as_slice()) {
+    match combine_primitive(WideInt::of(p), &mut entries, WideInt::of(q), by.as_slice()) {
         Ok(()) => Ok(Ints::from_vec(entries)),
         Err(Wide) => Err(WideFail::Lost),
     }

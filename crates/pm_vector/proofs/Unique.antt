@@ -33,7 +33,7 @@ module _ (a b : ℕ → ℕ) (m m' : ℕ) (up : (i j : ℕ) → i < j → j < m 
         ])
       ]
 
-  at_most : m ≤ m'
+  pub at_most : m ≤ m'
   at_most = elim (ℕ_discrete m 0) [
     | yes e ↦ omega arith
     | no ne ↦ (let w = cover (m - 1) (omega arith) in let l = w.1 in let h = at_least (m - 1) w.0 (omega arith) w.1 w.2 in omega arith)

@@ -36,3 +36,7 @@ small_more sum x y next i hx hy small e = let p = abs_product x y hx hy in omega
 
 pub within_more : (sum x y : ℤ) (i : ℕ) → FitsSigned w128 x → FitsSigned w128 y → i < 2 ^ 64 → unsigned_abs sum ≤ i * 2 ^ 254 → unsigned_abs (sum +ℤ x *ℤ y) < 2 ^ 512
 within_more sum x y i hx hy few small = let p = abs_product x y hx hy in omega (arith, ints)
+
+-- fewer than 2^64 products have a sum of at most 320 bits
+pub sum_small : (n : ℕ) (sum : ℤ) → n < 2 ^ 64 → unsigned_abs sum ≤ n * 2 ^ 254 → unsigned_abs sum < 2 ^ 320
+sum_small n sum few small = omega arith

@@ -5,18 +5,31 @@ ghost use Rattle.pm_vector.specs.Numbers.{InRange};
 ghost use Rattle.pm_vector.specs.Rows.{Row, difference, entry};
 ghost use Rattle.pm_vector.specs.Multiples.{HasQuotient, HaveQuotients};
 ghost use Rattle.pm_vector.specs.Magnitudes.{magnitude_of};
-ghost use Rattle.pm_vector.specs.WideInts.{value_of};
+ghost use Rattle.pm_vector.specs.WideInts.{IsFactor, value_of};
 ghost use Rattle.std.specs.Int.{◌∣◌};
 ghost use Rattle.std.specs.Prelude.{All, IfNone, IfSome, IsTrue, OnErr, OnOk, length, pos, unsigned_abs, ◌*ℤ◌, ◌-ℤ◌, ◌<◌, ◌≡◌, ◌↔◌, ◌⊎◌, ℕ};
 
 use crate::{Magnitude, Wide, WideInt};
 
-/// p x - q y.
-fn difference_of_products(p: i128, x: i128, q: i128, y: i128) -> WideInt
-    ensures { value_of result ≡ p *ℤ x -ℤ q *ℤ y }
+/// p x.
+fn product(p: WideInt, x: i128) -> WideInt
+    requires { IsFactor (value_of p) }
+    ensures { value_of result ≡ value_of p *ℤ x }
 {
-    let first = WideInt::product(p, x);
-    let second = WideInt::product(q, y);
+    let Some(made) = p.times(WideInt::of(x)) else {
+        unreachable!()
+    };
+    made
+}
+
+/// p x - q y.
+fn difference_of_products(p: WideInt, x: i128, q: WideInt, y: i128) -> WideInt
+    requires p_factor { IsFactor (value_of p) }
+    requires q_factor { IsFactor (value_of q) }
+    ensures { value_of result ≡ value_of p *ℤ x -ℤ value_of q *ℤ y }
+{
+    let first = product(p, x);
+    let second = product(q, y);
     let Some(made) = first.minus(second) else {
         unreachable!()
     };
@@ -24,18 +37,22 @@ fn difference_of_products(p: i128, x: i128, q: i128, y: i128) -> WideInt
 }
 
 /// The entry of p v - q w at a place.
-fn difference_at(p: i128, v: &[i128], q: i128, w: &[i128], i: usize) -> WideInt
+fn difference_at(p: WideInt, v: &[i128], q: WideInt, w: &[i128], i: usize) -> WideInt
+    requires p_factor { IsFactor (value_of p) }
+    requires q_factor { IsFactor (value_of q) }
     requires in_v { i < length v.now }
     requires in_w { i < length w.now }
-    ensures { value_of result ≡ entry (difference p v.now q w.now) i }
+    ensures { value_of result ≡ entry (difference (value_of p) v.now (value_of q) w.now) i }
 {
     difference_of_products(p, v[i], q, w[i])
 }
 
 /// The greatest common divisor of the entries of p v - q w; that of a zero row is 0.
-fn gcd_of_difference(p: i128, v: &[i128], q: i128, w: &[i128]) -> Magnitude
-    requires { length v.now ≡ length w.now }
-    ensures { IsGcdOf (difference p v.now q w.now) (magnitude_of result) }
+fn gcd_of_difference(p: WideInt, v: &[i128], q: WideInt, w: &[i128]) -> Magnitude
+    requires p_factor { IsFactor (value_of p) }
+    requires q_factor { IsFactor (value_of q) }
+    requires same_length { length v.now ≡ length w.now }
+    ensures { IsGcdOf (difference (value_of p) v.now (value_of q) w.now) (magnitude_of result) }
 {
     let mut divisor = Magnitude::of_digit(0);
     for i in 0..v.len() {
@@ -46,25 +63,39 @@ fn gcd_of_difference(p: i128, v: &[i128], q: i128, w: &[i128]) -> Magnitude
 
 /// The entry of p v - q w at a place, divided by one of its divisors. `None` exactly where the quotient is out of the
 /// range.
-fn quotient_at(p: i128, v: &[i128], q: i128, w: &[i128], d: Magnitude, i: usize) -> Option<i128>
+fn quotient_at(
+    p: WideInt,
+    v: &[i128],
+    q: WideInt,
+    w: &[i128],
+    d: Magnitude,
+    i: usize,
+) -> Option<i128>
+    requires p_factor { IsFactor (value_of p) }
+    requires q_factor { IsFactor (value_of q) }
     requires in_v { i < length v.now }
     requires in_w { i < length w.now }
     requires positive { 0 < magnitude_of d }
-    requires divisor { magnitude_of d ∣ unsigned_abs (entry (difference p v.now q w.now) i) }
-    ensures quotient { IfSome result (λ z. entry (difference p v.now q w.now) i
+    requires divisor { magnitude_of d ∣ unsigned_abs (entry (difference (value_of p) v.now (value_of q) w.now) i) }
+    ensures quotient { IfSome result (λ z. entry (difference (value_of p) v.now (value_of q) w.now) i
         ≡ pos (magnitude_of d) *ℤ z) }
     ensures in_range { IfSome result InRange }
-    ensures none { IfNone result (HasQuotient (entry (difference p v.now q w.now) i) (magnitude_of d) → ⊥) }
+    ensures none { IfNone result
+        (HasQuotient (entry (difference (value_of p) v.now (value_of q) w.now) i) (magnitude_of d) → ⊥) }
 {
     difference_at(p, v, q, w, i).divided_by(d).narrow()
 }
 
 /// Whether all these quotients are in the range.
-fn have_quotients(p: i128, v: &[i128], q: i128, w: &[i128], d: Magnitude) -> bool
+fn have_quotients(p: WideInt, v: &[i128], q: WideInt, w: &[i128], d: Magnitude) -> bool
+    requires p_factor { IsFactor (value_of p) }
+    requires q_factor { IsFactor (value_of q) }
     requires same_length { length v.now ≡ length w.now }
     requires positive { 0 < magnitude_of d }
-    requires divisor { (i : ℕ) → magnitude_of d ∣ unsigned_abs (entry (difference p v.now q w.now) i) }
-    ensures { IsTrue result ↔ HaveQuotients (difference p v.now q w.now) (magnitude_of d) (length v.now) }
+    requires divisor { (i : ℕ)
+        → magnitude_of d ∣ unsigned_abs (entry (difference (value_of p) v.now (value_of q) w.now) i) }
+    ensures { IsTrue result
+        ↔ HaveQuotients (difference (value_of p) v.now (value_of q) w.now) (magnitude_of d) (length v.now) }
 {
     for i in 0..v.len() {
         let Some(_) = quotient_at(p, v, q, w, d, i) else {
@@ -75,14 +106,17 @@ fn have_quotients(p: i128, v: &[i128], q: i128, w: &[i128], d: Magnitude) -> boo
 }
 
 /// v becomes p v - q w, divided by a divisor of all entries.
-fn write_quotients(p: i128, v: &mut [i128], q: i128, w: &[i128], d: Magnitude)
+fn write_quotients(p: WideInt, v: &mut [i128], q: WideInt, w: &[i128], d: Magnitude)
+    requires p_factor { IsFactor (value_of p) }
+    requires q_factor { IsFactor (value_of q) }
     requires same_length { length v.old ≡ length w.now }
     requires positive { 0 < magnitude_of d }
-    requires divisor { (i : ℕ) → magnitude_of d ∣ unsigned_abs (entry (difference p v.old q w.now) i) }
-    requires fit { HaveQuotients (difference p v.old q w.now) (magnitude_of d) (length v.old) }
+    requires divisor { (i : ℕ)
+        → magnitude_of d ∣ unsigned_abs (entry (difference (value_of p) v.old (value_of q) w.now) i) }
+    requires fit { HaveQuotients (difference (value_of p) v.old (value_of q) w.now) (magnitude_of d) (length v.old) }
     ensures length { length v.new ≡ length v.old }
     ensures quotients { (i : ℕ) → i < length v.old
-        → entry (difference p v.old q w.now) i ≡ pos (magnitude_of d) *ℤ entry v.new i }
+        → entry (difference (value_of p) v.old (value_of q) w.now) i ≡ pos (magnitude_of d) *ℤ entry v.new i }
     ensures in_range { All InRange v.new }
 {
     for i in 0..v.len() {
@@ -104,14 +138,17 @@ fn at_least_one(g: Magnitude) -> Magnitude
     g
 }
 
-/// v becomes the primitive row in the direction of p v - q w; where that is zero, v becomes zero. Takes no memory.
+/// v becomes the primitive row in the direction of p v - q w; where that is zero, v becomes zero. The factors have at
+/// most 320 bits, as the product of two rows has. Takes no memory.
 /// `Wide` exactly where an entry of that row is out of the range; v is then unchanged.
-pub fn combine_primitive(p: i128, v: &mut [i128], q: i128, w: &[i128]) -> Result<(), Wide>
-    requires { length v.old ≡ length w.now }
-    ensures primitive { OnOk result (IsPrimitiveOf (difference p v.old q w.now) v.new) }
+pub fn combine_primitive(p: WideInt, v: &mut [i128], q: WideInt, w: &[i128]) -> Result<(), Wide>
+    requires p_factor { IsFactor (value_of p) }
+    requires q_factor { IsFactor (value_of q) }
+    requires same_length { length v.old ≡ length w.now }
+    ensures primitive { OnOk result (IsPrimitiveOf (difference (value_of p) v.old (value_of q) w.now) v.new) }
     ensures in_range { OnOk result (All InRange v.new) }
-    ensures wide { OnErr result ((u : Row) → IsPrimitiveOf (difference p v.old q w.now) u → All InRange u
-        → ⊥) }
+    ensures wide { OnErr result ((u : Row)
+        → IsPrimitiveOf (difference (value_of p) v.old (value_of q) w.now) u → All InRange u → ⊥) }
     ensures unchanged { OnErr result (v.new ≡ v.old) }
 {
     let divisor = gcd_of_difference(p, v, q, w);

@@ -1,7 +1,7 @@
 // The product of two rows, by wide numbers.
 
 ghost use Rattle.pm_vector.specs.Rows.{dot as dot_of, entry};
-ghost use Rattle.pm_vector.specs.WideInts.{value_of};
+ghost use Rattle.pm_vector.specs.WideInts.{IsFactor, value_of};
 ghost use Rattle.std.specs.Prelude.{length, unsigned_abs, ◌*ℤ◌, ◌*◌, ◌+ℤ◌, ◌+◌, ◌<◌, ◌^◌, ◌≡◌, ◌≤◌};
 
 use crate::WideInt;
@@ -21,10 +21,11 @@ fn add_product(sum: WideInt, a: &[i128], b: &[i128], i: usize) -> WideInt
 }
 
 /// The sum of the products of the entries. It always fits: each product has at most 255 bits, and there are fewer than
-/// 2^64 of them.
+/// 2^64 of them; so it has at most 320 bits.
 pub fn wide_dot(a: &[i128], b: &[i128]) -> WideInt
     requires { length a.now ≡ length b.now }
-    ensures { value_of result ≡ dot_of a.now b.now }
+    ensures value { value_of result ≡ dot_of a.now b.now }
+    ensures small { IsFactor (value_of result) }
 {
     let mut sum = WideInt::of(0);
     for i in 0..a.len() {

@@ -10,5 +10,5 @@ pub returns : goal.returns
 returns c =
     let fits_v : FitsSigned w128 (entry c.args.v.now c.args.i) = search rules in
     let fits_w : FitsSigned w128 (entry c.args.w.now c.args.i) = search rules in
-    at_difference c.args.p c.args.v.now c.args.q c.args.w.now c.args.i (value_of c.difference_of_products.result)
-    (rw (kept c.args.p c.ranges.p, kept c.args.q c.ranges.q, kept (entry c.args.v.now c.args.i) fits_v, kept (entry c.args.w.now c.args.i) fits_w) at c.difference_of_products.ensures)
+    at_difference (value_of c.args.p) c.args.v.now (value_of c.args.q) c.args.w.now c.args.i (value_of c.difference_of_products.result)
+    (rw (kept (entry c.args.v.now c.args.i) fits_v, kept (entry c.args.w.now c.args.i) fits_w) at c.difference_of_products.ensures)
