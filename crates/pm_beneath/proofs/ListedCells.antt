@@ -224,7 +224,7 @@ module _ (J F : List Row) (vs : List ℤ) (Z : List (List Bool)) (f : ℕ) (T : 
             r.s,
             o.i,
             Contains_among (ray_among F b.i l),
-            subst (λ (k : ℤ). k <ℤ pos 0) (t.values b.i l) b.negative,
+            (t.values b.i l).0 b.negative,
             Contains_among r.member,
             record { member = Contains_among o.member; off = off_facet b.i l r.s r.member o.i o.member o.out; others = λ k c n. on_facet b.i l r.s r.member k (among_Contains r.s c) (o.others k (among_Contains r.s c) n) },
             subst (λ (z : List ℕ). IsExchange r.s o.i f z) r.made (exchanged (slice_index_or Z b.i []) r.s o.i o.member o.out o.others),
@@ -239,7 +239,7 @@ module _ (J F : List Row) (vs : List ℤ) (Z : List (List Bool)) (f : ℕ) (T : 
           let o = unset q l s is i m off.off in
           let others : (k : ℕ) → Among k s → ¬ (k ≡ i) → has (slice_index_or Z q []) k ≡ true = λ k j n. (t.zeros q k l (below_f s is k j)).1 (off.others k (Contains_among j) n) in (
             filter (has (slice_index_or Z q [])) s ++ f ∷ [],
-            Contains_among (among_append_right T (among_below vs Z f T (filter (has (slice_index_or Z q [])) s ++ f ∷ []) q (let e = t.values_many in omega arith) (let e = t.values_many in let g = t.zeros_many in omega arith) (subst (λ (k : ℤ). k <ℤ pos 0) (sym (t.values q l)) below) (among_joined (slice_index_or Z q []) f T s is (out_one (has (slice_index_or Z q [])) s i (distinct s is) m o others)))),
+            Contains_among (among_append_right T (among_below vs Z f T (filter (has (slice_index_or Z q [])) s ++ f ∷ []) q (let e = t.values_many in omega arith) (let e = t.values_many in let g = t.zeros_many in omega arith) ((t.values q l).1 below) (among_joined (slice_index_or Z q []) f T s is (out_one (has (slice_index_or Z q [])) s i (distinct s is) m o others)))),
             exchanged (slice_index_or Z q []) s i m o others,
           )
 

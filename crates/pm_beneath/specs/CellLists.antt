@@ -8,7 +8,7 @@ use Rattle.pm_geom.specs.Faces.{ray}
 use Rattle.pm_geom.specs.Graphs.{IsAscending}
 use Rattle.std.specs.List.{slice_index_or}
 use lib.IntN.{ℤ, pos}
-use lib.Signed.{lt_z}
+use lib.Signed.{◌<ℤ◌, lt_z}
 
 -- the places of the cell s that are set in z
 abbrev pub set_places : List Bool → List ℕ → List ℕ
@@ -28,12 +28,12 @@ cells_below (v ∷ vs) [] j T = []
 cells_below (v ∷ vs) (z ∷ Z) j T = cond (lt_z v (pos 0)) (joined_cells z j T ++ cells_below vs Z j T)
     (cells_below vs Z j T)
 
--- vs has the products of the rows of F with the row of J at f, and Z for each row of F the places before f at which
--- it is 0
+-- vs is negative where the product of the row of F with the row of J at f is, and Z has for each row of F the places
+-- before f at which it is 0
 pub record IsFacetTable (J F : List Row) (vs : List ℤ) (Z : List (List Bool)) (f : ℕ) : Type 0 where
   pub values_many : length vs ≡ length F
   pub zeros_many : length Z ≡ length F
-  pub values : (i : ℕ) → i < length F → entry vs i ≡ dot (ray F i) (ray J f)
+  pub values : (i : ℕ) → i < length F → (entry vs i <ℤ pos 0) ↔ (dot (ray F i) (ray J f) <ℤ pos 0)
   pub zeros : (i p : ℕ) → i < length F → p < f → IsTrue (has (slice_index_or Z i []) p)
       ↔ (dot (ray F i) (ray J p) ≡ pos 0)
 

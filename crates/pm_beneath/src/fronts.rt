@@ -3,7 +3,7 @@
 ghost use Rattle.pm_vector.specs.Rows.{HasCols};
 ghost use Rattle.pm_vector.specs.Bases.{IsRank, SameSpan, row_at};
 ghost use Rattle.pm_beneath.specs.CellLists.{AreNextCells};
-ghost use Rattle.pm_dd.specs.Building.{AreProducts};
+ghost use Rattle.pm_dd.specs.Building.{StandFor};
 ghost use Rattle.pm_dd.specs.Form.{AreReduced};
 ghost use Rattle.pm_dd.specs.Refusals.{IsShownOnRows};
 ghost use Rattle.pm_dd.specs.Tables.{IsRayTable};
@@ -28,7 +28,7 @@ pub(crate) struct Front {
     pub cells: Vec<Vec<u32>>,
 }
 
-/// The products of the next row with the rays of a front, or a refusal with its evidence.
+/// The products of the next row with the rays of a front, or what stands for them, or a refusal with its evidence.
 fn front_products(
     alloc: Global,
     cols: usize,
@@ -37,6 +37,7 @@ fn front_products(
     start: usize,
     front: usize,
     rays: &Rays,
+    wide: bool,
 ) -> Result<Vec<i128>, DdFail>
     requires row_cols { HasCols cols rows.now }
     requires few_rows { length rows.now < 2 ^ 30 }
@@ -46,10 +47,10 @@ fn front_products(
     requires within { front < length rows.now }
     requires table { IsRayTable cols equations.now rows.now front rays.now.rows.items rays.now.zeros.rows }
     requires reduced { AreReduced cols (equations.now ++ take start rows.now) rays.now.rows.items }
-    ensures products { IfOk result (λ v. AreProducts (row_at rows.now front) rays.now.rows.items v.items) }
+    ensures stand { IfOk result (λ v. StandFor (row_at rows.now front) rays.now.rows.items v.items) }
     ensures shown { IfErr result (IsShownOnRows cols equations.now rows.now start) }
 {
-    match products(alloc, &rows[front], &rays.rows) {
+    match products(alloc, &rows[front], &rays.rows, wide) {
         Ok(values) => Ok(values),
         Err(fail) => Err(refusal_of(alloc, cols, equations, rows, start, front, &rays.rows, fail)),
     }
@@ -92,7 +93,7 @@ pub(crate) fn next_front(
         s.items) r.cells.items)) }
     ensures shown { IfErr result (IsShownOnRows cols equations.now rows.now start) }
 {
-    let values = front_products(alloc, cols, equations, rows, start, front, rays)?;
+    let values = front_products(alloc, cols, equations, rows, start, front, rays, wide)?;
     let made = next_cells(alloc, cells, &values, &rays.zeros, front as u32)?;
     let next = rays_after(alloc, cols, equations, rows, start, front, rays, wide)?;
     Ok(Front {

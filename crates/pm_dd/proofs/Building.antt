@@ -1,16 +1,16 @@
 -- The rays of the next front are built from their sources, one by one.
-use Rattle.std.specs.Prelude.{ℕ, zero, suc, ◌+◌, ◌-◌, ◌≡◌, ◌<◌, ◌≤◌, ◌⊎◌, ◌↔◌, ◌&&◌, Bool, true, false, IsTrue, List, [], ◌∷◌, ◌++◌, length, get_or, take, drop}
+use Rattle.std.specs.Prelude.{ℕ, suc, ◌+◌, ◌-◌, ◌≡◌, ◌<◌, ◌≤◌, ◌⊎◌, ◌↔◌, ◌&&◌, Bool, true, false, IsTrue, List, [], ◌∷◌, ◌++◌, length, get_or, take, drop}
 use Rattle.std.specs.List.{All}
 use Rattle.std.proofs.Common.{arith, refl, sym, subst, ap, ◌∙◌, inl, inr}
 use Rattle.std.proofs.lemmas.Int.{ints}
 use Rattle.std.proofs.lemmas.List.{ext_get_or, get_or-append-add, get_or-drop, get_or-take, get_or_append_left, get_or_default, get_or_push, length-append, length-drop, length-take-le, length_push}
 use Rattle.pm_vector.specs.Cones.{InSpan, IsConeSet}
 use Rattle.pm_vector.specs.Divisors.{IsPrimitive}
-use Rattle.pm_vector.specs.Rows.{Row, difference, dot, entry, times, HasCols, IsZero, Same}
+use Rattle.pm_vector.specs.Rows.{Row, dot, entry, times, HasCols, IsZero, Same}
 use Rattle.pm_vector.proofs.Ring.{ring}
-use Rattle.pm_vector.proofs.Signs.{mul_cancel, mul_pos}
+use Rattle.pm_vector.proofs.Signs.{mul_cancel}
 use Rattle.pm_vector.proofs.Lists.{all_from, among_All}
-use Rattle.pm_vector.proofs.RowLaws.{dot-same, dot-times, entry-difference, entry-opposite, entry-plus, entry-times, length-difference, length-times}
+use Rattle.pm_vector.proofs.RowLaws.{dot-same, dot-times, entry-opposite, entry-plus, entry-times, length-times}
 use Rattle.pm_vector.specs.Bases.{IsRank, row_at}
 use Rattle.pm_bits.specs.Table.{Table}
 use Rattle.pm_bits.specs.Sets.{has, IsIntersection}
@@ -26,7 +26,7 @@ use Rattle.pm_dd.specs.Form.{KeepForm}
 use Rattle.pm_dd.specs.Fronts.{both_signs, HalfSpaces}
 use Rattle.pm_dd.specs.StepFails.{AreTooMany}
 use Rattle.pm_dd.specs.Tables.{IsRayTable, IsZeroSet, zero_set}
-use Rattle.pm_dd.specs.Building.{AllBut, AreProducts, IsBuilt, IsCombination, IsMade, IsNoPair, IsPairRay, NextSet, NextZeros, SeenKept, SeenPairs}
+use Rattle.pm_dd.specs.Building.{AllBut, IsBuilt, IsCombination, IsMade, IsNoPair, IsPairRay, NextSet, NextZeros, SeenKept, SeenPairs}
 use Rattle.pm_dd.proofs.AlikeLaws.{alike_sym, alike_trans}
 use Rattle.pm_dd.proofs.Description.{cut_cone_set}
 use Rattle.pm_dd.proofs.Next.{not_line}
@@ -35,7 +35,7 @@ use Rattle.pm_dd.proofs.StepLaws.{at_place, dot-combined, entry-combined, place_
 use Rattle.pm_dd.proofs.Fronts.{cut_front, dual_with_equations, next_with_equations, signs_cut_out, step_with_equations, take_cols}
 use Rattle.pm_dd.proofs.Tables.{count_filter, scan_is_right, zero_set_of_pair, zero_sets_grow}
 use native.Mathlib.Decide.{ℕ_discrete}
-use lib.IntN.{ℤ, pos, ◌-ℤ◌, ◌*ℤ◌}
+use lib.IntN.{ℤ, pos}
 use lib.Signed.{◌<ℤ◌, ◌≤ℤ◌, lt_z_yes}
 use Rattle.pm_limits.specs.Limits.{most_rows}
 
@@ -103,23 +103,12 @@ module _ (n : ℕ) (E J : List Row) (f : ℕ) (lf : f < length J) (V : List Row)
     step : IsRayStep n (NextSet E J f) (take f J) (row_at J f) V
     step = step_with_equations n E (take f J) (row_at J f) hE (take_cols n f J hJ) la s V t.order
 
-    factored : (p q g ar as' x y v : ℤ) → ar ≡ p *ℤ g → as' ≡ q *ℤ g → v ≡ p *ℤ x -ℤ q *ℤ y → ar *ℤ x -ℤ as' *ℤ y ≡ g *ℤ v
-    factored p q g ar as' x y v e1 e2 e3 = simp (e1, e2, e3, ring) (omega (arith, ints))
-
-    g_positive : (p ar : ℤ) (g : ℕ) → pos 0 <ℤ ar → ar ≡ p *ℤ pos g → pos 0 <ℤ pos g
-    g_positive p ar zero h e = absurd (let z = simp ring at e in omega (arith, ints))
-    g_positive p ar (suc g) h e = omega (arith, ints)
-
     pub made_pair : (i j : ℕ) → i < length V → j < length V → pos 0 <ℤ dot (row_at J f) (ray V i) → dot (row_at J f) (ray V j) <ℤ pos 0 → Adjacent (take f J) V i j →
-        (w : Row) → IsCombination (ray V i) (dot (row_at J f) (ray V i)) (ray V j) (dot (row_at J f) (ray V j)) w →
-        (both y : List Bool) → length both ≡ length J → IsIntersection both (zero_set Z i) (zero_set Z j) → NextZeros both f (pos 0) y → IsMade n E J f V (pair i j) w y
-    made_pair i j li lj up down adj w c both y lb m nz = from c.result.divided
+        (w : Row) → IsCombination (row_at J f) (ray V i) (ray V j) w → (both y : List Bool) → length both ≡ length J → IsIntersection both (zero_set Z i) (zero_set Z j) → NextZeros both f (pos 0) y → IsMade n E J f V (pair i j) w y
+    made_pair i j li lj up down adj w c both y lb m nz = from c.divided
       where
         src : IsSource (take f J) (row_at J f) V (pair i j)
         src = (li, lj, up, down, adj)
-
-        z : Row
-        z = combined (row_at J f) (ray V i) (ray V j)
 
         e : IsExtreme n (NextSet E J f) (combined (row_at J f) (ray V i) (ray V j))
         e = step.each (pair i j) src
@@ -127,41 +116,30 @@ module _ (n : ℕ) (E J : List Row) (f : ℕ) (lf : f < length J) (V : List Row)
         cs : IsConeSet (NextSet E J f)
         cs = halves_cone_set E (row_at J f ∷ take f J)
 
-        hg : pos 0 <ℤ pos c.factors.g
-        hg = g_positive c.a (dot (row_at J f) (ray V i)) c.factors.g up c.factors.first
+        never_zero : ¬ (IsZero (combined (row_at J f) (ray V i) (ray V j)))
+        never_zero q = e.not_line (cs.same (record { at = λ k. let u = q k in simp (entry-opposite, u) refl }) e.inside)
 
-        parts : Same (combined (row_at J f) (ray V i) (ray V j)) (times (pos c.factors.g) (difference c.a (ray V j) c.b (ray V i)))
-        parts = record { at = λ k. entry-combined (row_at J f) (ray V i) (ray V j) k ∙ factored c.a c.b (pos c.factors.g) (dot (row_at J f) (ray V i)) (dot (row_at J f) (ray V j)) (entry (ray V j) k) (entry (ray V i) k) (entry (difference c.a (ray V j) c.b (ray V i)) k) c.factors.first c.factors.second (entry-difference c.a (ray V j) c.b (ray V i) k) ∙ sym (entry-times (pos c.factors.g) (difference c.a (ray V j) c.b (ray V i)) k) }
-
-        never_zero : ¬ (IsZero (difference c.a (ray V j) c.b (ray V i)))
-        never_zero q = e.not_line (cs.same (record { at = λ k. let x = parts.at k in let u = q k in let v = simp (entry-times, u, ring) at x in simp entry-opposite (omega (arith, ints)) }) e.inside)
-
-        lw : length w ≡ n
-        lw = c.result.cols ∙ length-difference n c.a (ray V j) c.b (ray V i) (ray_extreme j lj).cols (ray_extreme i li).cols
-
-        zero_column : (m2 : ℤ) → pos 0 <ℤ m2 → Same (difference c.a (ray V j) c.b (ray V i)) (times m2 w) → (e : ℕ) → All (λ v. entry v e ≡ pos 0) V → entry w e ≡ pos 0
-        zero_column m2 h2 s2 e h =
+        zero_column : (g : ℤ) → pos 0 <ℤ g → Same (combined (row_at J f) (ray V i) (ray V j)) (times g w) → (e : ℕ) → All (λ v. entry v e ≡ pos 0) V → entry w e ≡ pos 0
+        zero_column g hg s2 e h =
             let zi = among_All (λ (v : Row). entry v e ≡ pos 0) (at_place V i li) h in
             let zj = among_All (λ (v : Row). entry v e ≡ pos 0) (at_place V j lj) h in
-            mul_cancel h2 (sym (simp entry-times at (s2.at e)) ∙ entry-difference c.a (ray V j) c.b (ray V i) e ∙ simp (zi, zj, ring))
+            mul_cancel hg (sym (simp entry-times at (s2.at e)) ∙ entry-combined (row_at J f) (ray V i) (ray V j) e ∙ simp (zi, zj, ring))
 
-        made_of : (m2 : ℤ) → pos 0 <ℤ m2 → Same (difference c.a (ray V j) c.b (ray V i)) (times m2 w) → IsPrimitive w → IsMade n E J f V (pair i j) w y
-        made_of m2 h2 s2 prim =
-            let hm = mul_pos hg h2 in
-            let whole : Same (combined (row_at J f) (ray V i) (ray V j)) (times (pos c.factors.g *ℤ m2) w) = record { at = λ k. let x = simp entry-times at (parts.at k) in let u = simp entry-times at (s2.at k) in simp (entry-times, x, u, ring) } in
+        made_of : (g : ℤ) → pos 0 <ℤ g → Same (combined (row_at J f) (ray V i) (ray V j)) (times g w) → IsPrimitive w → IsMade n E J f V (pair i j) w y
+        made_of g hg whole prim =
             let both_zero : IsZeroSet J f (combined (row_at J f) (ray V i) (ray V j)) both = zero_set_of_pair E J f lf (ray V i) (ray V j) (ray_extreme i li).inside (ray_extreme j lj).inside up down (zero_set Z i) (zero_set Z j) both (t.zeros i li) (t.zeros j lj) lb m in
             let level : dot (row_at J f) (combined (row_at J f) (ray V i) (ray V j)) ≡ pos 0 = rw dot-combined (simp ring (omega (arith, ints))) in
             record {
               source = src;
-              cols = lw;
-              alike = multiple_alike n (NextSet E J f) cs (combined (row_at J f) (ray V i) (ray V j)) w (pos c.factors.g *ℤ m2) e.cols hm e.inside whole;
-              inside = cs.part hm (cs.same whole e.inside);
-              form = record { primitive = λ h. prim; zeros = zero_column m2 h2 s2 };
+              cols = c.cols ∙ e.cols;
+              alike = multiple_alike n (NextSet E J f) cs (combined (row_at J f) (ray V i) (ray V j)) w g e.cols hg e.inside whole;
+              inside = cs.part hg (cs.same whole e.inside);
+              form = record { primitive = λ h. prim; zeros = zero_column g hg whole };
               zeros = zeros_of w ((zero_sets_grow J f).on (combined (row_at J f) (ray V i) (ray V j)) both y lf both_zero level nz.as_many (nz.on refl) (λ p np. nz.others p (λ q. absurd (np q))))
-                  (λ b. let d = dot-same b (combined (row_at J f) (ray V i) (ray V j)) (times (pos c.factors.g *ℤ m2) w) whole.at ∙ dot-times b (pos c.factors.g *ℤ m2) w in (λ u. mul_cancel hm (sym d ∙ u ∙ simp ring), λ u. d ∙ simp (u, ring)));
+                  (λ b. let d = dot-same b (combined (row_at J f) (ray V i) (ray V j)) (times g w) whole.at ∙ dot-times b g w in (λ u. mul_cancel hg (sym d ∙ u ∙ simp ring), λ u. d ∙ simp (u, ring)));
             }
 
-        from : (IsZero (difference c.a (ray V j) c.b (ray V i)) × IsZero w) ⊎ ((g : ℤ) × (pos 0 <ℤ g) × Same (difference c.a (ray V j) c.b (ray V i)) (times g w) × IsPrimitive w) → IsMade n E J f V (pair i j) w y
+        from : (IsZero (combined (row_at J f) (ray V i) (ray V j)) × IsZero w) ⊎ ((g : ℤ) × (pos 0 <ℤ g) × Same (combined (row_at J f) (ray V i) (ray V j)) (times g w) × IsPrimitive w) → IsMade n E J f V (pair i j) w y
         from (inl q) = absurd (never_zero q.0)
         from (inr q) = made_of q.0 q.1 q.2 q.3
 
@@ -393,26 +371,25 @@ and_same true = refl
 and_same false = refl
 
 -- ---- a pair of the loop
-module _ (n : ℕ) (E J : List Row) (f : ℕ) (lf : f < length J) (V : List Row) (table : Table) (t : IsRayTable n E J f V table.rows) (hE : HasCols n E) (hJ : HasCols n J) (v : List ℤ) (products : AreProducts (row_at J f) V v) (len : table.row_len ≡ length J) (i j : ℕ) (li : i < length V) (lj : j < length V) where
+module _ (n : ℕ) (E J : List Row) (f : ℕ) (lf : f < length J) (V : List Row) (table : Table) (t : IsRayTable n E J f V table.rows) (hE : HasCols n E) (hJ : HasCols n J) (len : table.row_len ≡ length J) (i j : ℕ) (li : i < length V) (lj : j < length V) where
   pub no_pair : (d : ℕ) → IsRank (E ++ take f J) d → IsNoPair table i j (d - length E - 2) → ¬ (IsSource (take f J) (row_at J f) V (pair i j))
   no_pair d rd o p = elim o.dropped [
     | inl few ↦ count_filter n E J f V table.rows hE hJ t d rd i j li lj o.both (o.cols ∙ len) o.meet (omega arith) p.4
     | inr other ↦ (scan_is_right n E J f V table.rows t i j li lj o.both o.meet table refl).0 p.4 other
   ]
 
-  pub pair_made : InSpan (E ++ take f J) (row_at J f) → pos 0 <ℤ entry v i → entry v j <ℤ pos 0 → (w : Row) (y : List Bool) → IsPairRay V table v i j f w y → IsMade n E J f V (pair i j) w y
+  pub pair_made : InSpan (E ++ take f J) (row_at J f) → pos 0 <ℤ dot (row_at J f) (ray V i) → dot (row_at J f) (ray V j) <ℤ pos 0 → (w : Row) (y : List Bool) → IsPairRay (row_at J f) V table i j f w y → IsMade n E J f V (pair i j) w y
   pair_made s up down w y p =
-      let ei = products.each i li in
-      let ej = products.each j lj in
-      made_pair n E J f lf V table.rows t hE hJ s i j li lj (subst (λ (z : ℤ). pos 0 <ℤ z) ei up) (subst (λ (z : ℤ). z <ℤ pos 0) ej down) ((scan_is_right n E J f V table.rows t i j li lj p.both p.meet table refl).1 p.alone)
-      w (rw (ei, ej) at p.combination) p.both y (p.cols ∙ len) p.meet p.zeros
+      made_pair n E J f lf V table.rows t hE hJ s i j li lj up down ((scan_is_right n E J f V table.rows t i j li lj p.both p.meet table refl).1 p.alone)
+      w p.combination p.both y (p.cols ∙ len) p.meet p.zeros
 
 -- the rays of a table have n entries
 pub table_cols : (n : ℕ) (E J : List Row) (f : ℕ) (V : List Row) (Z : List (List Bool)) → IsRayTable n E J f V Z → HasCols n V
 table_cols n E J f V Z t = all_from (λ (x : Row). length x ≡ n) V (λ x i. (among_All (λ v. IsExtreme n (HalfSpaces E (take f J)) v) i t.order.each).cols)
 
-pub ray_cols : (n : ℕ) (E J : List Row) (f : ℕ) (V : List Row) (Z : List (List Bool)) → IsRayTable n E J f V Z → (k : ℕ) → k < length V → length (ray V k) ≡ n
-ray_cols n E J f V Z t k l = cols_at (at_place V k l) (table_cols n E J f V Z t)
+-- and so has the next row
+pub front_cols : (n : ℕ) (E J : List Row) (f : ℕ) → f < length J → HasCols n J → (V : List Row) (Z : List (List Bool)) → IsRayTable n E J f V Z → HasCols (length (row_at J f)) V
+front_cols n E J f lf hJ V Z t = rw (cols_at (at_place J f lf) hJ) (table_cols n E J f V Z t)
 
 -- ---- the start: the dual rows of the inequalities
 pub start_table : (n : ℕ) (E J D : List Row) (start : ℕ) (W : List Row) (Z : List (List Bool)) → IsDualBasis n (E ++ take start J) D → HasCols n (E ++ take start J) → start ≤ length J → length W ≡ start → length Z ≡ start →

@@ -1,5 +1,5 @@
 -- The definitions read on the quadrant and on small lists.
-use Rattle.std.specs.Prelude.{ℕ, zero, suc, ◌≡◌, ◌<◌, ◌↔◌, Bool, true, false, IsTrue, List, [], ◌∷◌, ◌++◌, length, slice_index_or, take}
+use Rattle.std.specs.Prelude.{ℕ, zero, suc, ◌-◌, ◌^◌, ◌≡◌, ◌<◌, ◌↔◌, Bool, true, false, IsTrue, List, [], ◌∷◌, ◌++◌, length, slice_index_or, take}
 use Rattle.std.specs.List.{All}
 use Rattle.std.proofs.Common.{ap, arith, refl, subst, sym}
 use Rattle.std.proofs.lemmas.Int.{ints}
@@ -14,19 +14,20 @@ use Rattle.pm_vector.specs.BasisExamples.{pair}
 use Rattle.pm_vector.proofs.BasisExamples.{primitive_by_one}
 use Rattle.pm_vector.proofs.Spans.{span_times}
 use Rattle.pm_elim.specs.Enlarging.{MarkEnlarging}
-use Rattle.pm_geom.specs.Cones.{CutOut, InLineality, IsExtreme, IsOrder}
+use Rattle.pm_geom.specs.Cones.{CutOut, InLineality, IsExtreme}
 use Rattle.pm_geom.specs.Faces.{ray}
 use Rattle.pm_geom.specs.Generators.{AreGenerators, IsBefore}
 use Rattle.pm_geom.specs.StatedOrder.{IsStatedOrder, rows_marked}
 use Rattle.pm_geom.proofs.Facets.{dot-opposite}
 use Rattle.pm_geom.proofs.Polar.{cut_from}
+use Rattle.pm_dd.specs.Building.{StandsFor}
 use Rattle.pm_dd.specs.Description.{AreDualRays}
 use Rattle.pm_dd.specs.Examples.{QuadrantIsRead, quadrant}
 use Rattle.pm_dd.specs.Mixed.{HaveSameRows}
 use Rattle.pm_dd.proofs.Start.{dual_is_order}
 use Rattle.pm_dd.proofs.StepLaws.{flat_on}
 use Rattle.pm_dd.proofs.ZeroRows.{dot_zero, no_basis, zero_of_span}
-use lib.IntN.{negsuc, pos}
+use lib.IntN.{neg_ℤ, negsuc, pos}
 use lib.Signed.{lt_z_yes, ◌<ℤ◌}
 
 -- ---- lexicographic order
@@ -205,6 +206,22 @@ not_less s =
     let first : Among (pair 0 1) (pair 0 1 ∷ pair 1 0 ∷ []) = here in
     not_among (among_Contains (pair 1 0 ∷ []) ((s.same (pair 0 1)).0 (Contains_among first)))
 
+-- ---- what stands for a number
+itself : StandsFor (negsuc 4) (negsuc 4)
+itself = record { same = λ h. refl; above = λ h. absurd (omega (arith, ints)); below = λ h. absurd (omega (arith, ints)) }
+
+end_above : StandsFor (pos (2 ^ 200)) (pos (2 ^ 127 - 1))
+end_above = record { same = λ h. absurd (omega arith); above = λ h. refl; below = λ h. absurd (omega (arith, ints)) }
+
+end_below : StandsFor (neg_ℤ (pos (2 ^ 127))) (neg_ℤ (pos (2 ^ 127 - 1)))
+end_below = record { same = λ h. absurd (omega (arith, ints)); above = λ h. absurd (omega (arith, ints)); below = λ h. refl }
+
+not_end : ¬ (StandsFor (pos 5) (pos (2 ^ 127 - 1)))
+not_end s = let e = s.same (omega (arith, ints)) in omega (arith, ints)
+
+not_other_end : ¬ (StandsFor (pos (2 ^ 200)) (neg_ℤ (pos (2 ^ 127 - 1))))
+not_other_end s = let e = s.above (omega (arith, ints)) in omega (arith, ints)
+
 pub quadrant_is_read : QuadrantIsRead
 quadrant_is_read = record {
   before = before_first;
@@ -219,4 +236,9 @@ quadrant_is_read = record {
   not_stated = not_stated;
   turned = turned_rows;
   one_less = not_less;
+  itself = itself;
+  end_above = end_above;
+  end_below = end_below;
+  not_end = not_end;
+  not_other_end = not_other_end;
 }

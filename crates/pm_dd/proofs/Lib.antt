@@ -3,6 +3,8 @@ pub mod Description
 pub mod StepLaws
 pub mod Thin
 pub mod Next
+pub mod Stands
+pub mod Combinations
 pub mod Start
 pub mod Count
 pub mod Fronts

@@ -6,7 +6,7 @@ use Rattle.std.proofs.lemmas.List.{drop_all, drop_more, get_or_read}
 use Rattle.pm_vector.specs.Rows.{Row, entry}
 use Rattle.pm_vector.specs.Bases.{row_at}
 use Rattle.pm_dd.specs.Description.{Source, kept, pair, IsSource}
-use Rattle.pm_dd.specs.Building.{AreNegativesLeft, AreProducts, IsBuilt, IsMade, IsNextNegative, SeenPairs}
+use Rattle.pm_dd.specs.Building.{AreNegativesLeft, IsBuilt, IsMade, IsNextNegative, SeenPairs, StandFor}
 use Rattle.pm_dd.proofs.Building.{built_same, pairs_more, pairs_row, pairs_skip}
 use native.Mathlib.Decide.{ℕ_discrete}
 use lib.IntN.{ℤ, pos}
@@ -55,7 +55,7 @@ row_next n E J f V v i js W Y k j l e b = subst (λ (ks : List ℕ). IsRowBuilt 
 pub row_read : (n : ℕ) (E J : List Row) (f : ℕ) (V : List Row) (v : List ℤ) (i : ℕ) (js : List ℕ) (W : List Row) (Y : List (List Bool)) → (k j : ℕ) → k < length js → j ≡ get_or js k j → IsRowBuilt n E J f V v i (drop k js) W Y → IsRowBuilt n E J f V v i (j ∷ drop (k + 1) js) W Y
 row_read n E J f V v i js W Y k j l is b = row_next n E J f V v i js W Y k j l (sym (get_or_read js k j l is 0)) b
 
-module _ (n : ℕ) (E J : List Row) (f : ℕ) (V : List Row) (v : List ℤ) (products : AreProducts (row_at J f) V v) (i : ℕ) where
+module _ (n : ℕ) (E J : List Row) (f : ℕ) (V : List Row) (v : List ℤ) (stand : StandFor (row_at J f) V v) (i : ℕ) where
   -- pairs that are no sources are passed over
   pairs_pass : (start end : ℕ) (W : List Row) (Y : List (List Bool)) → start ≤ end → ((l : ℕ) → start ≤ l → l < end → IsFar J f V l) → IsBuilt n E J f V (SeenPairs i start) W Y → IsBuilt n E J f V (SeenPairs i end) W Y
   pairs_pass start end W Y le far b = built_same n E J f V (SeenPairs i start) (SeenPairs i end) W Y to back b
@@ -79,7 +79,7 @@ module _ (n : ℕ) (E J : List Row) (f : ℕ) (V : List Row) (v : List ℤ) (pro
 
   -- before the first pair
   pub row_start : (passed : ℕ → Type 0) → ((l : ℕ) → passed l → IsFar J f V l) → (js : List ℕ) (W : List Row) (Y : List (List Bool)) → AreNegativesLeft passed v 0 (length v) js → IsBuilt n E J f V (SeenPairs i 0) W Y → IsRowBuilt n E J f V v i js W Y
-  row_start passed far js W Y h b = record { start = 0; within = omega arith; left = places_as passed (IsFar J f V) far v 0 (length V) js (subst (λ (k : ℕ). AreNegativesLeft passed v 0 k js) products.as_many h); built = b }
+  row_start passed far js W Y h b = record { start = 0; within = omega arith; left = places_as passed (IsFar J f V) far v 0 (length V) js (subst (λ (k : ℕ). AreNegativesLeft passed v 0 k js) stand.as_many h); built = b }
 
   -- the next pair is no source
   pub row_skip : (j : ℕ) (js : List ℕ) (W : List Row) (Y : List (List Bool)) → IsRowBuilt n E J f V v i (j ∷ js) W Y → ¬ (IsSource (take f J) (row_at J f) V (pair i j)) → IsRowBuilt n E J f V v i js W Y

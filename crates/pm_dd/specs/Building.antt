@@ -1,19 +1,18 @@
 -- The rays of the next front, while they are made.
-use Rattle.std.specs.Prelude.{ℕ, suc, ◌+◌, ◌≡◌, ◌<◌, ◌≤◌, ◌⊎◌, ◌↔◌, IsTrue, Bool, List, [], ◌∷◌, length, get_or, take}
+use Rattle.std.specs.Prelude.{ℕ, suc, ◌+◌, ◌-◌, ◌^◌, ◌≡◌, ◌<◌, ◌≤◌, ◌⊎◌, ◌↔◌, IsTrue, Bool, List, [], ◌∷◌, length, get_or, take}
 use Rattle.pm_vector.specs.Divisors.{IsPrimitiveOf}
 use Rattle.pm_vector.specs.Numbers.{InRange}
-use Rattle.pm_vector.specs.Rows.{Row, difference, dot, entry}
+use Rattle.pm_vector.specs.Rows.{Row, dot, entry}
 use Rattle.pm_vector.specs.Bases.{row_at}
 use Rattle.pm_bits.specs.Sets.{has, IsIntersection, common_count, member_count}
 use Rattle.pm_bits.specs.Table.{Table, OtherContains}
-use Rattle.pm_elim.specs.Steps.{IsFactors}
 use Rattle.pm_geom.specs.Cones.{SameModulo}
 use Rattle.pm_geom.specs.Faces.{ray}
-use Rattle.pm_dd.specs.Description.{Source, kept, pair, IsSource, source_row}
+use Rattle.pm_dd.specs.Description.{Source, combined, kept, pair, IsSource, source_row}
 use Rattle.pm_dd.specs.Form.{KeepsForm}
 use Rattle.pm_dd.specs.Fronts.{HalfSpaces}
 use Rattle.pm_dd.specs.Tables.{IsZeroSet, zero_set}
-use lib.IntN.{ℤ, pos}
+use lib.IntN.{ℤ, neg_ℤ, pos}
 use lib.Signed.{◌<ℤ◌, ◌≤ℤ◌}
 
 -- y is the zero set z, with the bit f set where v is 0
@@ -22,11 +21,16 @@ pub record NextZeros (z : List Bool) (f : ℕ) (v : ℤ) (y : List Bool) : Type 
   pub on : v ≡ pos 0 → IsTrue (has y f)
   pub others : (p : ℕ) → (p ≡ f → ¬ (v ≡ pos 0)) → has y p ≡ has z p
 
--- v has the product of a with each row of V
-pub record AreProducts (a : Row) (V : List Row) (v : List ℤ) : Type 0 where
+-- v is z where z is in the range, and else the end of the range on the side of z
+pub record StandsFor (z v : ℤ) : Type 0 where
+  pub same : InRange z → v ≡ z
+  pub above : pos (2 ^ 127) ≤ℤ z → v ≡ pos (2 ^ 127 - 1)
+  pub below : z ≤ℤ neg_ℤ (pos (2 ^ 127)) → v ≡ neg_ℤ (pos (2 ^ 127 - 1))
+
+-- v has for the product of a with each row of V what stands for it
+pub record StandFor (a : Row) (V : List Row) (v : List ℤ) : Type 0 where
   pub as_many : length v ≡ length V
-  pub each : (i : ℕ) → i < length V → entry v i ≡ dot a (ray V i)
-  pub in_range : (i : ℕ) → i < length V → InRange (entry v i)
+  pub each : (i : ℕ) → i < length V → StandsFor (dot a (ray V i)) (entry v i)
 
 -- the ray at l is not behind, or has fewer than `need` rows in common with u
 abbrev pub IsPassed : Table → List ℤ → List Bool → ℕ → ℕ → Type 0
@@ -81,12 +85,9 @@ abbrev pub SeenPairs : ℕ → ℕ → Source → Type 0
 SeenPairs i j (kept k) = Unit {0}
 SeenPairs i j (pair k l) = (k < i) ⊎ ((k ≡ i) × (l < j))
 
--- w is (p/g) s - (q/g) r made primitive, where g is the greatest common divisor of |q| and p
-pub record IsCombination (r : Row) (p : ℤ) (s : Row) (q : ℤ) (w : Row) : Type 0 where
-  pub a : ℤ
-  pub b : ℤ
-  pub factors : IsFactors q p a b
-  pub result : IsPrimitiveOf (difference a s b r) w
+-- w is (a.r) s - (a.s) r made primitive
+abbrev pub IsCombination : Row → Row → Row → Row → Type 0
+IsCombination a r s w = IsPrimitiveOf (combined a r s) w
 
 -- too few members of both zero sets, or another zero set has all of them
 pub record IsNoPair (table : Table) (i j need : ℕ) : Type 0 where
@@ -95,14 +96,14 @@ pub record IsNoPair (table : Table) (i j need : ℕ) : Type 0 where
   pub meet : IsIntersection both (zero_set table.rows i) (zero_set table.rows j)
   pub dropped : (member_count both < need) ⊎ OtherContains table both i j
 
--- the combination of an adjacent pair, with its zero set for the next front
-pub record IsPairRay (V : List Row) (table : Table) (v : List ℤ) (i j f : ℕ) (w : Row) (y : List Bool)
+-- the combination of an adjacent pair that vanishes on a, with its zero set for the next front
+pub record IsPairRay (a : Row) (V : List Row) (table : Table) (i j f : ℕ) (w : Row) (y : List Bool)
     : Type 0 where
   pub both : List Bool
   pub cols : length both ≡ table.row_len
   pub meet : IsIntersection both (zero_set table.rows i) (zero_set table.rows j)
   pub alone : ¬ (OtherContains table both i j)
-  pub combination : IsCombination (ray V i) (entry v i) (ray V j) (entry v j) w
+  pub combination : IsCombination a (ray V i) (ray V j) w
   pub zeros : NextZeros both f (pos 0) y
 
 -- a row of m bits in which those before `start` are set, but the one at k

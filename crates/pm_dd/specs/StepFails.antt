@@ -1,5 +1,5 @@
 -- What the refusal of one step shows.
-use Rattle.std.specs.Prelude.{ℕ, suc, ◌≡◌, ◌<◌, Bool, List, length, take}
+use Rattle.std.specs.Prelude.{ℕ, suc, ◌≡◌, ◌<◌, ◌⊎◌, Bool, List, length, take}
 use Rattle.std.specs.List.{All, AllPairs}
 use Rattle.pm_vector.specs.Rows.{Row, entry}
 use Rattle.pm_vector.specs.Bases.{row_at}
@@ -15,7 +15,7 @@ use Rattle.pm_geom.specs.RayEvidence.{IsWideCombination}
 use Rattle.pm_dd.specs.Fronts.{HalfSpaces}
 use Rattle.pm_dd.specs.Tables.{zero_set}
 use Rattle.pm_dd.specs.declared.fails.CombinationFail.{CombinationFail}
-use Rattle.pm_dd.specs.declared.fails.CombinationFail.TheVariants.{Column, NoMemory}
+use Rattle.pm_dd.specs.declared.fails.CombinationFail.TheVariants.{Column, First, NoMemory, Second}
 use Rattle.pm_dd.specs.declared.fails.StepFail.{StepFail}
 use Rattle.pm_dd.specs.declared.fails.StepFail.TheVariants.{Product, Pair, Many, Memory}
 use lib.IntN.{ℤ}
@@ -32,23 +32,33 @@ pub record IsWideFactors (r : Row) (p : ℤ) (s : Row) (q : ℤ) (c : ℕ) : Typ
 
 -- Q holds of the column of the refusal of a combination, where it has one
 abbrev pub IfColumn : CombinationFail → (ℕ → Type 0) → Type 0
+IfColumn First Q = ⊥
+IfColumn Second Q = ⊥
 IfColumn (Column c) Q = Q c
 IfColumn NoMemory Q = Unit {0}
 
--- no other zero set has what those of the rays at i and at j both have, and their combination leaves the range in the
--- column c
-pub record IsWideTablePair (V : List Row) (table : Table) (v : List ℤ) (i j c : ℕ) : Type 0 where
+-- the product of a with r or with s leaves the range, or the combination of r and s that vanishes on a does in the
+-- column that is named; or it is want of memory
+abbrev pub IsCombinationFail : Row → Row → Row → CombinationFail → Type 0
+IsCombinationFail a r s First = ¬ (ProductsStay a r)
+IsCombinationFail a r s Second = ¬ (ProductsStay a s)
+IsCombinationFail a r s (Column c) = IsWideCombination a r s c
+IsCombinationFail a r s NoMemory = Unit {0}
+
+-- no other zero set has what those of the rays at i and at j both have
+pub record IsTablePair (table : Table) (i j : ℕ) : Type 0 where
   pub both : List Bool
   pub meet : IsIntersection both (zero_set table.rows i) (zero_set table.rows j)
   pub alone : ¬ (OtherContains table both i j)
-  pub wide : IsWideFactors (ray V i) (entry v i) (ray V j) (entry v j) c
 
--- the refusal names i and j and such a column, or is want of memory
-abbrev pub IsPairFailOf : List Row → Table → List ℤ → ℕ → ℕ → StepFail → Type 0
-IsPairFailOf V table v i j (Product k) = ⊥
-IsPairFailOf V table v i j (Pair k l c) = (k ≡ i) × (l ≡ j) × IsWideTablePair V table v i j c
-IsPairFailOf V table v i j (Many W) = ⊥
-IsPairFailOf V table v i j Memory = Unit {0}
+-- the refusal names i or j, whose product with a leaves the range; or i and j, a pair of the table, and a column in
+-- which their combination does; or it is want of memory
+abbrev pub IsPairFailOf : Row → List Row → Table → ℕ → ℕ → StepFail → Type 0
+IsPairFailOf a V table i j (Product k) = ((k ≡ i) ⊎ (k ≡ j)) × ¬ (ProductsStay a (ray V k))
+IsPairFailOf a V table i j (Pair k l c) = (k ≡ i) × (l ≡ j) × IsTablePair table i j
+    × IsWideCombination a (ray V i) (ray V j) c
+IsPairFailOf a V table i j (Many W) = ⊥
+IsPairFailOf a V table i j Memory = Unit {0}
 
 -- the rays at i and at j are a pair that is combined for the next row, and their combination leaves the range in the
 -- column c

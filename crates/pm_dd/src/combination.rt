@@ -2,33 +2,49 @@
 
 ghost use Rattle.pm_vector.specs.Divisors.{IsPrimitiveOf};
 ghost use Rattle.pm_vector.specs.Numbers.{InRange};
-ghost use Rattle.pm_vector.specs.Rows.{difference};
-ghost use Rattle.pm_dd.specs.Building.{IsCombination};
-ghost use Rattle.pm_dd.specs.StepFails.{IfColumn, IsWideFactors};
-ghost use Rattle.std.specs.Prelude.{IfErr, IfOk, IfSome, length, pos, ◌<ℤ◌, ◌≡◌};
+ghost use Rattle.pm_vector.specs.Products.{ProductsStay};
+ghost use Rattle.pm_vector.specs.Rows.{difference, dot as dot_of};
+ghost use Rattle.pm_dd.specs.Building.{IsCombination, StandsFor};
+ghost use Rattle.pm_dd.specs.StepFails.{IfColumn, IsCombinationFail, IsWideFactors};
+ghost use Rattle.std.specs.Prelude.{IfErr, IfNone, IfOk, IfSome, length, pos, ◌<ℤ◌, ◌≡◌};
 
 use crate::fails::CombinationFail;
 use pm_elim::cancelling_factors;
-use pm_vector::{Ints, Wide, combine, combine_primitive, first_wide_place, primitive};
+use pm_vector::{
+    Ints, Wide, combine, combine_primitive, dot, first_wide_place, primitive, wide_dot,
+};
 use std::alloc::{AllocError, Global};
 
-/// The combination of two rays, made primitive, by numbers of the range alone.
+/// The product of a row with a ray, where it is in the range, from the number that stands for it.
+fn exact_product(row: &Ints, ray: &Ints, value: i128) -> Option<i128>
+    requires cols { length row.now ≡ length ray.now }
+    requires stands { StandsFor (dot_of row.now ray.now) value }
+    ensures exact { IfSome result (λ z. z ≡ dot_of row.now ray.now) }
+    ensures in_range { IfSome result InRange }
+    ensures none { IfNone result (¬ (ProductsStay row.now ray.now)) }
+{
+    if -i128::MAX < value && value < i128::MAX {
+        return Some(value);
+    }
+    dot(row.as_slice(), ray.as_slice()).ok()
+}
+
+/// The primitive row in the direction of p down - q up, by numbers of the range alone.
 fn narrow_combination(
     alloc: Global,
     up: &Ints,
-    up_value: i128,
+    p: i128,
     down: &Ints,
-    down_value: i128,
+    q: i128,
 ) -> Result<Ints, CombinationFail>
-    requires up_in_range { InRange up_value }
-    requires down_in_range { InRange down_value }
-    requires positive { pos 0 <ℤ up_value }
+    requires up_in_range { InRange p }
+    requires down_in_range { InRange q }
+    requires positive { pos 0 <ℤ p }
     requires cols { length down.now ≡ length up.now }
-    ensures combination { IfOk result (λ w. IsCombination up.now up_value down.now down_value w) }
-    ensures wide { IfErr result (λ f.
-        IfColumn f (λ c. IsWideFactors up.now up_value down.now down_value c)) }
+    ensures combination { IfOk result (λ w. IsPrimitiveOf (difference p down.now q up.now) w) }
+    ensures wide { IfErr result (λ f. IfColumn f (λ c. IsWideFactors up.now p down.now q c)) }
 {
-    let factors = cancelling_factors(down_value, up_value);
+    let factors = cancelling_factors(q, p);
     let mut made = down.copy(alloc)?;
     let Ok(()) = combine(factors.first, &mut made, factors.second, up) else {
         let Some(column) = first_wide_place(
@@ -45,17 +61,47 @@ fn narrow_combination(
     Ok(made)
 }
 
-/// The primitive row in the direction of p down - q up, by wide numbers on the way. `None` where it leaves the range.
-fn wide_difference(
+/// The combination of two rays that vanishes on a row, made primitive, where their products with it are in the range,
+/// by numbers of the range alone.
+fn exact_combination(
     alloc: Global,
-    p: i128,
-    down: &Ints,
-    q: i128,
+    row: &Ints,
     up: &Ints,
-) -> Result<Option<Ints>, AllocError>
-    requires { length down.now ≡ length up.now }
-    ensures { IfOk result (λ o. IfSome o (λ w. IsPrimitiveOf (difference p down.now q up.now) w)) }
+    up_value: i128,
+    down: &Ints,
+    down_value: i128,
+) -> Result<Ints, CombinationFail>
+    requires up_cols { length row.now ≡ length up.now }
+    requires down_cols { length row.now ≡ length down.now }
+    requires up_stands { StandsFor (dot_of row.now up.now) up_value }
+    requires down_stands { StandsFor (dot_of row.now down.now) down_value }
+    requires positive { pos 0 <ℤ dot_of row.now up.now }
+    ensures combination { IfOk result (λ w. IsCombination row.now up.now down.now w) }
+    ensures fail { IfErr result (λ f. IsCombinationFail row.now up.now down.now f) }
 {
+    let Some(p) = exact_product(row, up, up_value) else {
+        return Err(CombinationFail::First);
+    };
+    let Some(q) = exact_product(row, down, down_value) else {
+        return Err(CombinationFail::Second);
+    };
+    narrow_combination(alloc, up, p, down, q)
+}
+
+/// The combination of two rays that vanishes on a row, made primitive, by wide numbers on the way. `None` where it
+/// leaves the range.
+fn wide_combination(
+    alloc: Global,
+    row: &Ints,
+    up: &Ints,
+    down: &Ints,
+) -> Result<Option<Ints>, AllocError>
+    requires up_cols { length row.now ≡ length up.now }
+    requires down_cols { length row.now ≡ length down.now }
+    ensures { IfOk result (λ o. IfSome o (λ w. IsCombination row.now up.now down.now w)) }
+{
+    let p = wide_dot(row.as_slice(), up.as_slice());
+    let q = wide_dot(row.as_slice(), down.as_slice());
     let mut entries = down.copy(alloc)?.into_vec();
     match combine_primitive(p, &mut entries, q, up.as_slice()) {
         Ok(()) => Ok(Some(Ints::from_vec(entries))),
@@ -63,32 +109,33 @@ fn wide_difference(
     }
 }
 
-/// The combination of two rays, made primitive; with `wide` by wide numbers where those of the range do not suffice.
+/// The combination of two rays that vanishes on a row, made primitive; with `wide` by wide numbers where those of the
+/// range do not suffice. A number stands for the product of the row with each ray.
 pub(crate) fn combination_of(
     alloc: Global,
+    row: &Ints,
     up: &Ints,
     up_value: i128,
     down: &Ints,
     down_value: i128,
     wide: bool,
 ) -> Result<Ints, CombinationFail>
-    requires up_in_range { InRange up_value }
-    requires down_in_range { InRange down_value }
-    requires positive { pos 0 <ℤ up_value }
-    requires cols { length down.now ≡ length up.now }
-    ensures combination { IfOk result (λ w. IsCombination up.now up_value down.now down_value w) }
-    ensures wide { IfErr result (λ f.
-        IfColumn f (λ c. IsWideFactors up.now up_value down.now down_value c)) }
+    requires up_cols { length row.now ≡ length up.now }
+    requires down_cols { length row.now ≡ length down.now }
+    requires up_stands { StandsFor (dot_of row.now up.now) up_value }
+    requires down_stands { StandsFor (dot_of row.now down.now) down_value }
+    requires positive { pos 0 <ℤ dot_of row.now up.now }
+    ensures combination { IfOk result (λ w. IsCombination row.now up.now down.now w) }
+    ensures fail { IfErr result (λ f. IsCombinationFail row.now up.now down.now f) }
 {
-    let fail = match narrow_combination(alloc, up, up_value, down, down_value) {
+    let fail = match exact_combination(alloc, row, up, up_value, down, down_value) {
         Ok(made) => return Ok(made),
         Err(fail) => fail,
     };
     if !wide {
         return Err(fail);
     }
-    let factors = cancelling_factors(down_value, up_value);
-    match wide_difference(alloc, factors.first, down, factors.second, up)? {
+    match wide_combination(alloc, row, up, down)? {
         Some(made) => Ok(made),
         None => Err(fail),
     }

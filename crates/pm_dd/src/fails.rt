@@ -73,9 +73,12 @@ pub enum StepFail {
     Memory,
 }
 
-/// Why a combination was given up: a column where it leaves the range, or want of memory.
+/// Why a combination was given up: the product with the first or with the second ray leaves the range, or the
+/// combination does in a column; or want of memory.
 #[derive(Debug, Drop)]
 pub(crate) enum CombinationFail {
+    First,
+    Second,
     Column(usize),
     NoMemory,
 }

@@ -130,8 +130,8 @@ pub fn law_step_fail_shows()
     ensures { StepFailShows }
 {}
 
-/// The definitions read on the quadrant, on a list with a row that does not enlarge the span, and on a list in two
-/// orders.
+/// The definitions read on the quadrant, on a list with a row that does not enlarge the span, on a list in two orders,
+/// and on numbers in the range and outside.
 pub fn example_quadrant()
     ensures { QuadrantIsRead }
 {}

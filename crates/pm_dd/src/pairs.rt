@@ -1,10 +1,9 @@
 // The combinations of adjacent pairs of rays.
 
 ghost use Rattle.pm_vector.specs.Cones.{InSpan};
-ghost use Rattle.pm_vector.specs.Numbers.{InRange};
-ghost use Rattle.pm_vector.specs.Rows.{HasCols, entry};
+ghost use Rattle.pm_vector.specs.Rows.{HasCols, dot};
 ghost use Rattle.pm_vector.specs.Bases.{IsRank, row_at};
-ghost use Rattle.pm_dd.specs.Building.{AreProducts, IsBuilt, IsNoPair, IsPairRay, SeenKept};
+ghost use Rattle.pm_dd.specs.Building.{IsBuilt, IsNoPair, IsPairRay, SeenKept, StandFor};
 ghost use Rattle.pm_dd.specs.Form.{KeepForm};
 ghost use Rattle.pm_dd.specs.StepFails.{IsPairFailOf, IsStepFail};
 ghost use Rattle.pm_dd.specs.Tables.{IsRayTable};
@@ -30,6 +29,7 @@ fn needed(rank: usize, equations: usize) -> usize
 /// The combination of a pair of rays with what their zero sets have in common, if the pair is adjacent.
 pub(crate) fn pair_ray(
     alloc: Global,
+    row: &Ints,
     rays: &Rays,
     i: usize,
     j: usize,
@@ -42,18 +42,16 @@ pub(crate) fn pair_ray(
     requires first { i < length rays.now.rows.items }
     requires second { j < length rays.now.rows.items }
     requires as_many { length rays.now.rows.items ≡ length rays.now.zeros.rows }
-    requires values { length values.now ≡ length rays.now.rows.items }
-    requires up_in_range { InRange (entry values.now i) }
-    requires down_in_range { InRange (entry values.now j) }
-    requires up { pos 0 <ℤ entry values.now i }
-    requires cols { length (ray rays.now.rows.items j) ≡ length (ray rays.now.rows.items i) }
+    requires cols { HasCols (length row.now) rays.now.rows.items }
+    requires stand { StandFor row.now rays.now.rows.items values.now }
+    requires up { pos 0 <ℤ dot row.now (ray rays.now.rows.items i) }
     requires front { front < rays.now.zeros.row_len }
     requires both { length both.old ≡ rays.now.zeros.row_len }
     ensures both { length both.new ≡ length both.old }
     ensures none { IfOk result (λ o. IfNone o (IsNoPair rays.now.zeros i j need)) }
     ensures some { IfOk result (λ o.
-        IfSome o (λ r. IsPairRay rays.now.rows.items rays.now.zeros values.now i j front r.row r.zeros)) }
-    ensures wide { IfErr result (λ f. IsPairFailOf rays.now.rows.items rays.now.zeros values.now i j f) }
+        IfSome o (λ r. IsPairRay row.now rays.now.rows.items rays.now.zeros i j front r.row r.zeros)) }
+    ensures wide { IfErr result (λ f. IsPairFailOf row.now rays.now.rows.items rays.now.zeros i j f) }
 {
     let first = rays.zeros.row(i);
     let second = rays.zeros.row(j);
@@ -64,15 +62,18 @@ pub(crate) fn pair_ray(
     if rays.zeros.other_contains(both, i, j) {
         return Ok(None);
     }
-    let row = match combination_of(
+    let made = match combination_of(
         alloc,
+        row,
         &rays.rows[i],
         values[i],
         &rays.rows[j],
         values[j],
         wide,
     ) {
-        Ok(row) => row,
+        Ok(made) => made,
+        Err(CombinationFail::First) => return Err(StepFail::Product(i)),
+        Err(CombinationFail::Second) => return Err(StepFail::Product(j)),
         Err(CombinationFail::Column(column)) => return Err(StepFail::Pair {
             first: i,
             second: j,
@@ -83,7 +84,7 @@ pub(crate) fn pair_ray(
     let mut zeros = BitRow::with_len(alloc, both.len())?;
     both.meet_into(both, &mut zeros);
     zeros.set(front);
-    Ok(Some(Ray { row, zeros }))
+    Ok(Some(Ray { row: made, zeros }))
 }
 
 /// The rays of the next front: kept ones, and the combinations of all adjacent pairs.
@@ -106,7 +107,7 @@ pub(crate) fn paired_rays(
     requires rank { IsRank (equations.now ++ take front rows.now) rank }
     requires table { IsRayTable cols equations.now rows.now front rays.now.rows.items rays.now.zeros.rows }
     requires old_len { rays.now.zeros.row_len ≡ length rows.now }
-    requires products { AreProducts (row_at rows.now front) rays.now.rows.items values.now }
+    requires stand { StandFor (row_at rows.now front) rays.now.rows.items values.now }
     requires new_len { made.zeros.row_len ≡ length rows.now }
     requires kept { IsBuilt cols equations.now rows.now front rays.now.rows.items
         (SeenKept (length rays.now.rows.items)) made.rows.items made.zeros.rows }
@@ -133,7 +134,18 @@ pub(crate) fn paired_rays(
         }
         for k in 0..negatives.len() {
             let j = negatives[k];
-            let ray = match pair_ray(alloc, rays, i, j, values, front, need, &mut both, wide)? {
+            let ray = match pair_ray(
+                alloc,
+                &rows[front],
+                rays,
+                i,
+                j,
+                values,
+                front,
+                need,
+                &mut both,
+                wide,
+            )? {
                 Some(ray) => ray,
                 None => continue,
             };

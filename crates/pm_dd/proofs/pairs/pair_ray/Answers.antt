@@ -1,13 +1,10 @@
-use Rattle.pm_vector.specs.Rows.{entry}
 use Rattle.pm_bits.proofs.Common.{has-met_row, length-met_row, member_count-met_row, met_row}
 use Rattle.pm_bits.specs.Sets.{has}
 use Rattle.pm_dd.proofs.Building.{and_same}
 use Rattle.pm_dd.proofs.pairs.pair_ray.Goals as goal
 use Rattle.pm_dd.specs.Tables.{zero_set}
 use Rattle.pm_geom.specs.Faces.{ray}
-use Rattle.std.specs.Int.{w128}
-use Rattle.std.proofs.lemmas.Int.{fits_signed_from_abs, to_z-of_z}
-use Rattle.std.proofs.Common.{FitsSigned, [], ap, arith, inl, length, refl, sym, ◌∙◌, ◌≡◌}
+use Rattle.std.proofs.Common.{[], ap, arith, inl, length, refl, sym, ◌∙◌, ◌≡◌}
 use Rattle.std.proofs.lemmas.List.{get_or_read}
 
 pub returns-then-common_count-need-clause-none : goal.returns-then-common_count-need-clause-none
@@ -25,14 +22,12 @@ pub returns-clause-some : goal.returns-clause-some
 returns-clause-some c =
     let first : c.index.result.now ≡ ray c.args.rays.now.rows.items c.args.i = get_or_read c.args.rays.now.rows.items c.args.i c.index.result.now c.requires.first c.index.ensures [] in
     let second : c.index-2.result.now ≡ ray c.args.rays.now.rows.items c.args.j = get_or_read c.args.rays.now.rows.items c.args.j c.index-2.result.now c.requires.second c.index-2.ensures [] in
-    let fit_i : FitsSigned w128 (entry c.args.values.now c.args.i) = fits_signed_from_abs w128 (entry c.args.values.now c.args.i) c.requires.up_in_range in
-    let fit_j : FitsSigned w128 (entry c.args.values.now c.args.j) = fits_signed_from_abs w128 (entry c.args.values.now c.args.j) c.requires.down_in_range in
     record {
       both = c.meet_into.new.out;
       cols = c.meet_into.ensures.len ∙ c.requires.both;
       meet = rw (c.row-first.ensures.value, c.row-second.ensures.value) at c.meet_into.ensures.members;
       alone = λ o. let t = c.other_contains.ensures.1 o in let f = c.if-other_contains.false in cc;
-      combination = rw (first, second, to_z-of_z w128 (entry c.args.values.now c.args.i) fit_i, to_z-of_z w128 (entry c.args.values.now c.args.j) fit_j) at c.in-Ok.ensures.combination;
+      combination = rw (first, second) at c.in-Ok.ensures.combination;
       zeros = record {
         as_many = c.set.ensures.len ∙ c.meet_into-2.ensures.len ∙ c.in_ok-zeros.ensures.len ∙ c.len.ensures;
         on = λ e. c.set.ensures.member;
@@ -43,15 +38,13 @@ returns-clause-some c =
 pub returns-in-Err-Column-clause-wide : goal.returns-in-Err-Column-clause-wide
 returns-in-Err-Column-clause-wide c =
     let first : c.index.result.now ≡ ray c.args.rays.now.rows.items c.args.i = get_or_read c.args.rays.now.rows.items c.args.i c.index.result.now c.requires.first c.index.ensures [] in
-    let second : c.index-2.result.now ≡ ray c.args.rays.now.rows.items c.args.j = get_or_read c.args.rays.now.rows.items c.args.j c.index-2.result.now c.requires.second c.index-2.ensures [] in
-    let fit_i : FitsSigned w128 (entry c.args.values.now c.args.i) = fits_signed_from_abs w128 (entry c.args.values.now c.args.i) c.requires.up_in_range in
-    let fit_j : FitsSigned w128 (entry c.args.values.now c.args.j) = fits_signed_from_abs w128 (entry c.args.values.now c.args.j) c.requires.down_in_range in (
+    let second : c.index-2.result.now ≡ ray c.args.rays.now.rows.items c.args.j = get_or_read c.args.rays.now.rows.items c.args.j c.index-2.result.now c.requires.second c.index-2.ensures [] in (
       refl,
       refl,
       record {
         both = c.meet_into.new.out;
         meet = rw (c.row-first.ensures.value, c.row-second.ensures.value) at c.meet_into.ensures.members;
         alone = λ o. let t = c.other_contains.ensures.1 o in let f = c.if-other_contains.false in cc;
-        wide = rw c.in-Err-Column.column-is (rw (c.in-Err-Column.field-0-is, first, second, to_z-of_z w128 (entry c.args.values.now c.args.i) fit_i, to_z-of_z w128 (entry c.args.values.now c.args.j) fit_j) at c.in-Err-Column.ensures.wide);
       },
+      rw c.in-Err-Column.column-is (rw (c.in-Err-Column.field-0-is, first, second) at c.in-Err-Column.ensures.fail),
     )

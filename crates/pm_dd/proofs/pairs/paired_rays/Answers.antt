@@ -1,26 +1,25 @@
 use Rattle.pm_vector.specs.Rows.{dot, entry}
 use Rattle.pm_vector.specs.Bases.{row_at}
-use Rattle.pm_dd.proofs.Building.{built_form, built_many, built_table, no_pair, pair_made, pairs_all, pairs_first, pairs_none_row, pairs_skip_row, ray_cols}
+use Rattle.pm_dd.proofs.Building.{built_form, built_many, built_table, front_cols, no_pair, pair_made, pairs_all, pairs_first, pairs_none_row, pairs_skip_row}
 use Rattle.pm_bits.specs.Sets.{common_count}
 use Rattle.pm_dd.proofs.FarRays.{far_ahead, far_behind}
 use Rattle.pm_dd.proofs.Negatives.{row_end, row_more, row_read, row_skip, row_start}
+use Rattle.pm_dd.proofs.Stands.{above_of, below_of, to_of}
 use Rattle.pm_dd.proofs.StepFails.{pair_fail}
 use Rattle.pm_dd.proofs.pairs.paired_rays.Goals as goal
 use Rattle.pm_dd.specs.Building.{IsNoPair, IsPairRay, IsPassed, SeenPairs}
 use Rattle.pm_dd.specs.Tables.{zero_set}
 use Rattle.pm_geom.specs.Faces.{ray}
-use Rattle.std.proofs.Common.{arith, drop, length, sym, ◌+◌, ◌-◌, ◌<◌, ◌≤◌, ◌∙◌}
+use Rattle.std.proofs.Common.{[], arith, drop, length, ◌+◌, ◌-◌, ◌<◌, ◌≡◌, ◌≤◌, ◌∙◌}
+use Rattle.std.proofs.lemmas.List.{get_or_read}
 use Rattle.std.proofs.lemmas.Int.{ints}
 use Rattle.std.proofs.lemmas.Result.{err_from_is_err_and}
-use lib.IntN.{pos}
-use lib.Signed.{◌<ℤ◌, ◌≤ℤ◌}
 
 pub loop-i-preserved-then-values-i-le0 : goal.loop-i-preserved-then-values-i-le0
 loop-i-preserved-then-values-i-le0 c =
     let l : c.loop-i.i < length c.args.rays.now.rows.items = omega arith in
-    let e = c.requires.products.each c.loop-i.i l in
     let t = c.if-values-i-le0.true in
-    let low : dot (row_at c.args.rows.now c.args.front) (ray c.args.rays.now.rows.items c.loop-i.i) ≤ℤ pos 0 = omega (arith, ints) in
+    let low = to_of (dot (row_at c.args.rows.now c.args.front) (ray c.args.rays.now.rows.items c.loop-i.i)) (entry c.args.values.now c.loop-i.i) (c.requires.stand.each c.loop-i.i l) (omega (arith, ints)) in
     record {
       both_len = c.loop-i.invariant.both_len;
       row_len = c.loop-i.invariant.row_len;
@@ -38,7 +37,7 @@ loop-i-preserved-then-common_count_with-need c =
       row_len = c.loop-i.invariant.row_len;
       few = c.loop-i.invariant.few;
       built = pairs_none_row c.args.cols c.args.equations.now c.args.rows.now c.args.front c.args.rays.now.rows.items c.loop-i.i c.loop-i.next.items c.loop-i.zeros.rows c.loop-i.invariant.built
-          (far_ahead c.args.cols c.args.equations.now c.args.rows.now c.args.front c.args.rays.now.rows.items c.args.rays.now.zeros c.requires.table c.requires.equation_cols c.requires.row_cols c.args.values.now c.requires.products c.args.rank c.requires.rank c.needed-need.result c.needed-need.ensures c.in_ok-unions.unions.behind c.in_ok-unions.ensures.behind c.loop-i.i few);
+          (far_ahead c.args.cols c.args.equations.now c.args.rows.now c.args.front c.args.rays.now.rows.items c.args.rays.now.zeros c.requires.table c.requires.equation_cols c.requires.row_cols c.args.values.now c.requires.stand c.args.rank c.requires.rank c.needed-need.result c.needed-need.ensures c.in_ok-unions.unions.behind c.in_ok-unions.ensures.behind c.loop-i.i few);
     }
 
 pub pair_ray-requires-clause-second : goal.pair_ray-requires-clause-second
@@ -47,26 +46,30 @@ pair_ray-requires-clause-second c =
     let row = row_read c.args.cols c.args.equations.now c.args.rows.now c.args.front c.args.rays.now.rows.items c.args.values.now c.loop-i.i c.in_ok-negatives.negatives.items c.loop-k.next.items c.loop-k.zeros.rows c.loop-k.k c.index-j.result.now l c.index-j.ensures c.loop-k.invariant.built in
     row.left.0.within
 
-pub pair_ray-requires-clause-down_in_range : goal.pair_ray-requires-clause-down_in_range
-pair_ray-requires-clause-down_in_range c =
-    let l : c.loop-k.k < length c.in_ok-negatives.negatives.items = omega arith in
-    let row = row_read c.args.cols c.args.equations.now c.args.rows.now c.args.front c.args.rays.now.rows.items c.args.values.now c.loop-i.i c.in_ok-negatives.negatives.items c.loop-k.next.items c.loop-k.zeros.rows c.loop-k.k c.index-j.result.now l c.index-j.ensures c.loop-k.invariant.built in
-    c.requires.products.in_range c.index-j.result.now row.left.0.within
-
 pub pair_ray-requires-clause-cols : goal.pair_ray-requires-clause-cols
 pair_ray-requires-clause-cols c =
+    let next : c.index-rows-front.result ≡ row_at c.args.rows.now c.args.front = get_or_read c.args.rows.now c.args.front c.index-rows-front.result c.requires.within c.index-rows-front.is [] in
+    rw next (front_cols c.args.cols c.args.equations.now c.args.rows.now c.args.front c.requires.within c.requires.row_cols c.args.rays.now.rows.items c.args.rays.now.zeros.rows c.requires.table)
+
+pub pair_ray-requires-clause-stand : goal.pair_ray-requires-clause-stand
+pair_ray-requires-clause-stand c =
+    let next : c.index-rows-front.result ≡ row_at c.args.rows.now c.args.front = get_or_read c.args.rows.now c.args.front c.index-rows-front.result c.requires.within c.index-rows-front.is [] in
+    rw next c.requires.stand
+
+pub pair_ray-requires-clause-up : goal.pair_ray-requires-clause-up
+pair_ray-requires-clause-up c =
     let li : c.loop-i.i < length c.args.rays.now.rows.items = omega arith in
-    let l : c.loop-k.k < length c.in_ok-negatives.negatives.items = omega arith in
-    let row = row_read c.args.cols c.args.equations.now c.args.rows.now c.args.front c.args.rays.now.rows.items c.args.values.now c.loop-i.i c.in_ok-negatives.negatives.items c.loop-k.next.items c.loop-k.zeros.rows c.loop-k.k c.index-j.result.now l c.index-j.ensures c.loop-k.invariant.built in
-    ray_cols c.args.cols c.args.equations.now c.args.rows.now c.args.front c.args.rays.now.rows.items c.args.rays.now.zeros.rows c.requires.table c.index-j.result.now row.left.0.within ∙ sym (ray_cols c.args.cols c.args.equations.now c.args.rows.now c.args.front c.args.rays.now.rows.items c.args.rays.now.zeros.rows c.requires.table c.loop-i.i li)
+    let ti = c.if-values-i-le0.false in
+    let next : c.index-rows-front.result ≡ row_at c.args.rows.now c.args.front = get_or_read c.args.rows.now c.args.front c.index-rows-front.result c.requires.within c.index-rows-front.is [] in
+    rw next (above_of (dot (row_at c.args.rows.now c.args.front) (ray c.args.rays.now.rows.items c.loop-i.i)) (entry c.args.values.now c.loop-i.i) (c.requires.stand.each c.loop-i.i li) (omega (arith, ints)))
 
 pub loop-k-init : goal.loop-k-init
 loop-k-init c = record {
   both_len = c.loop-i.invariant.both_len;
   row_len = c.loop-i.invariant.row_len;
   few = c.loop-i.invariant.few;
-  built = row_start c.args.cols c.args.equations.now c.args.rows.now c.args.front c.args.rays.now.rows.items c.args.values.now c.requires.products c.loop-i.i (IsPassed c.args.rays.now.zeros c.args.values.now c.in_ok-unions.unions.ahead c.needed-need.result)
-      (far_behind c.args.cols c.args.equations.now c.args.rows.now c.args.front c.args.rays.now.rows.items c.args.rays.now.zeros c.requires.table c.requires.equation_cols c.requires.row_cols c.args.values.now c.requires.products c.args.rank c.requires.rank c.needed-need.result c.needed-need.ensures c.in_ok-unions.unions.ahead c.in_ok-unions.ensures.ahead)
+  built = row_start c.args.cols c.args.equations.now c.args.rows.now c.args.front c.args.rays.now.rows.items c.args.values.now c.requires.stand c.loop-i.i (IsPassed c.args.rays.now.zeros c.args.values.now c.in_ok-unions.unions.ahead c.needed-need.result)
+      (far_behind c.args.cols c.args.equations.now c.args.rows.now c.args.front c.args.rays.now.rows.items c.args.rays.now.zeros c.requires.table c.requires.equation_cols c.requires.row_cols c.args.values.now c.requires.stand c.args.rank c.requires.rank c.needed-need.result c.needed-need.ensures c.in_ok-unions.unions.ahead c.in_ok-unions.ensures.ahead)
       c.in_ok-negatives.negatives.items c.loop-i.next.items c.loop-i.zeros.rows c.in_ok-negatives.ensures c.loop-i.invariant.built;
 }
 
@@ -76,28 +79,30 @@ loop-k-preserved-in-None c =
     let l : c.loop-k.k < length c.in_ok-negatives.negatives.items = omega arith in
     let row = row_read c.args.cols c.args.equations.now c.args.rows.now c.args.front c.args.rays.now.rows.items c.args.values.now c.loop-i.i c.in_ok-negatives.negatives.items c.loop-k.next.items c.loop-k.zeros.rows c.loop-k.k c.index-j.result.now l c.index-j.ensures c.loop-k.invariant.built in
     let o : IsNoPair c.args.rays.now.zeros c.loop-i.i c.index-j.result.now (c.args.rank - length c.args.equations.now - 2) = rw (c.in-None.is, c.needed-need.ensures) at c.in_ok-ray.ensures.none in
-    let never = no_pair c.args.cols c.args.equations.now c.args.rows.now c.args.front c.requires.within c.args.rays.now.rows.items c.args.rays.now.zeros c.requires.table c.requires.equation_cols c.requires.row_cols c.args.values.now c.requires.products c.requires.old_len c.loop-i.i c.index-j.result.now li row.left.0.within c.args.rank c.requires.rank o in
+    let never = no_pair c.args.cols c.args.equations.now c.args.rows.now c.args.front c.requires.within c.args.rays.now.rows.items c.args.rays.now.zeros c.requires.table c.requires.equation_cols c.requires.row_cols c.requires.old_len c.loop-i.i c.index-j.result.now li row.left.0.within c.args.rank c.requires.rank o in
     record {
       both_len = c.pair_ray.ensures.both ∙ c.loop-k.invariant.both_len;
       row_len = c.loop-k.invariant.row_len;
       few = c.loop-k.invariant.few;
-      built = row_skip c.args.cols c.args.equations.now c.args.rows.now c.args.front c.args.rays.now.rows.items c.args.values.now c.requires.products c.loop-i.i c.index-j.result.now (drop (c.loop-k.k + 1) c.in_ok-negatives.negatives.items) c.loop-k.next.items c.loop-k.zeros.rows row never;
+      built = row_skip c.args.cols c.args.equations.now c.args.rows.now c.args.front c.args.rays.now.rows.items c.args.values.now c.requires.stand c.loop-i.i c.index-j.result.now (drop (c.loop-k.k + 1) c.in_ok-negatives.negatives.items) c.loop-k.next.items c.loop-k.zeros.rows row never;
     }
 
 pub loop-k-preserved : goal.loop-k-preserved
 loop-k-preserved c =
+    let next : c.index-rows-front.result ≡ row_at c.args.rows.now c.args.front = get_or_read c.args.rows.now c.args.front c.index-rows-front.result c.requires.within c.index-rows-front.is [] in
     let li : c.loop-i.i < length c.args.rays.now.rows.items = omega arith in
     let ti = c.if-values-i-le0.false in
-    let up : pos 0 <ℤ entry c.args.values.now c.loop-i.i = omega (arith, ints) in
+    let up = above_of (dot (row_at c.args.rows.now c.args.front) (ray c.args.rays.now.rows.items c.loop-i.i)) (entry c.args.values.now c.loop-i.i) (c.requires.stand.each c.loop-i.i li) (omega (arith, ints)) in
     let l : c.loop-k.k < length c.in_ok-negatives.negatives.items = omega arith in
     let row = row_read c.args.cols c.args.equations.now c.args.rows.now c.args.front c.args.rays.now.rows.items c.args.values.now c.loop-i.i c.in_ok-negatives.negatives.items c.loop-k.next.items c.loop-k.zeros.rows c.loop-k.k c.index-j.result.now l c.index-j.ensures c.loop-k.invariant.built in
-    let p : IsPairRay c.args.rays.now.rows.items c.args.rays.now.zeros c.args.values.now c.loop-i.i c.index-j.result.now c.args.front c.in-Some.ray.row c.in-Some.ray.zeros = rw c.in-Some.is at c.in_ok-ray.ensures.some in
-    let made = pair_made c.args.cols c.args.equations.now c.args.rows.now c.args.front c.requires.within c.args.rays.now.rows.items c.args.rays.now.zeros c.requires.table c.requires.equation_cols c.requires.row_cols c.args.values.now c.requires.products c.requires.old_len c.loop-i.i c.index-j.result.now li row.left.0.within c.requires.spanned up row.left.0.negative c.in-Some.ray.row c.in-Some.ray.zeros p in
+    let p : IsPairRay (row_at c.args.rows.now c.args.front) c.args.rays.now.rows.items c.args.rays.now.zeros c.loop-i.i c.index-j.result.now c.args.front c.in-Some.ray.row c.in-Some.ray.zeros = rw (c.in-Some.is, next) at c.in_ok-ray.ensures.some in
+    let down = below_of (dot (row_at c.args.rows.now c.args.front) (ray c.args.rays.now.rows.items c.index-j.result.now)) (entry c.args.values.now c.index-j.result.now) (c.requires.stand.each c.index-j.result.now row.left.0.within) row.left.0.negative in
+    let made = pair_made c.args.cols c.args.equations.now c.args.rows.now c.args.front c.requires.within c.args.rays.now.rows.items c.args.rays.now.zeros c.requires.table c.requires.equation_cols c.requires.row_cols c.requires.old_len c.loop-i.i c.index-j.result.now li row.left.0.within c.requires.spanned up down c.in-Some.ray.row c.in-Some.ray.zeros p in
     record {
       both_len = c.pair_ray.ensures.both ∙ c.loop-k.invariant.both_len;
       row_len = c.in-Ok.ensures.row_len ∙ c.loop-k.invariant.row_len;
       few = let t = c.if-len-gt-MOST_ROWS.false in let n = c.len.ensures in let whole = c.push.new.self.ok.0 in omega arith;
-      built = rw (c.in_ok-push.ensures.items, c.in-Ok.ensures.ok) (row_more c.args.cols c.args.equations.now c.args.rows.now c.args.front c.args.rays.now.rows.items c.args.values.now c.requires.products c.loop-i.i c.index-j.result.now (drop (c.loop-k.k + 1) c.in_ok-negatives.negatives.items) c.loop-k.next.items c.loop-k.zeros.rows row c.in-Some.ray.row c.in-Some.ray.zeros made);
+      built = rw (c.in_ok-push.ensures.items, c.in-Ok.ensures.ok) (row_more c.args.cols c.args.equations.now c.args.rows.now c.args.front c.args.rays.now.rows.items c.args.values.now c.requires.stand c.loop-i.i c.index-j.result.now (drop (c.loop-k.k + 1) c.in_ok-negatives.negatives.items) c.loop-k.next.items c.loop-k.zeros.rows row c.in-Some.ray.row c.in-Some.ray.zeros made);
     }
 
 pub loop-i-preserved : goal.loop-i-preserved
@@ -107,7 +112,7 @@ loop-i-preserved c =
       both_len = c.loop-k.invariant.both_len;
       row_len = c.loop-k.invariant.row_len;
       few = c.loop-k.invariant.few;
-      built = row_end c.args.cols c.args.equations.now c.args.rows.now c.args.front c.args.rays.now.rows.items c.args.values.now c.requires.products c.loop-i.i c.in_ok-negatives.negatives.items c.loop-k.k c.loop-k.next.items c.loop-k.zeros.rows last c.loop-k.invariant.built;
+      built = row_end c.args.cols c.args.equations.now c.args.rows.now c.args.front c.args.rays.now.rows.items c.args.values.now c.requires.stand c.loop-i.i c.in_ok-negatives.negatives.items c.loop-k.k c.loop-k.next.items c.loop-k.zeros.rows last c.loop-k.invariant.built;
     }
 
 pub returns-clause-table : goal.returns-clause-table
@@ -126,27 +131,31 @@ loop-i-init c = record {
 
 pub returns-in_err-ray-clause-wide : goal.returns-in_err-ray-clause-wide
 returns-in_err-ray-clause-wide c =
+    let next : c.index-rows-front.result ≡ row_at c.args.rows.now c.args.front = get_or_read c.args.rows.now c.args.front c.index-rows-front.result c.requires.within c.index-rows-front.is [] in
     let li : c.loop-i.i < length c.args.rays.now.rows.items = omega arith in
     let ti = c.if-values-i-le0.false in
-    let up : pos 0 <ℤ entry c.args.values.now c.loop-i.i = omega (arith, ints) in
+    let up = above_of (dot (row_at c.args.rows.now c.args.front) (ray c.args.rays.now.rows.items c.loop-i.i)) (entry c.args.values.now c.loop-i.i) (c.requires.stand.each c.loop-i.i li) (omega (arith, ints)) in
     let l : c.loop-k.k < length c.in_ok-negatives.negatives.items = omega arith in
     let row = row_read c.args.cols c.args.equations.now c.args.rows.now c.args.front c.args.rays.now.rows.items c.args.values.now c.loop-i.i c.in_ok-negatives.negatives.items c.loop-k.next.items c.loop-k.zeros.rows c.loop-k.k c.index-j.result.now l c.index-j.ensures c.loop-k.invariant.built in
+    let down = below_of (dot (row_at c.args.rows.now c.args.front) (ray c.args.rays.now.rows.items c.index-j.result.now)) (entry c.args.values.now c.index-j.result.now) (c.requires.stand.each c.index-j.result.now row.left.0.within) row.left.0.negative in
     let p = err_from_is_err_and c.from_residual-in_err-ray.result c.from_residual-in_err-ray.ensures.1 in
-    rw (p.1, p.2) (pair_fail c.args.cols c.args.equations.now c.args.rows.now c.args.front c.args.rays.now.rows.items c.args.rays.now.zeros c.requires.table c.args.values.now c.requires.products c.loop-i.i c.index-j.result.now li row.left.0.within up row.left.0.negative c.in_err-ray.field-0.0 c.in_err-ray.ensures.wide)
+    rw (p.1, p.2) (pair_fail c.args.cols c.args.equations.now c.args.rows.now c.args.front c.args.rays.now.rows.items c.args.rays.now.zeros c.requires.table c.loop-i.i c.index-j.result.now li row.left.0.within up down c.in_err-ray.field-0.0 (rw next at c.in_err-ray.ensures.wide))
 
 pub returns-then-len-gt-MOST_ROWS-clause-wide : goal.returns-then-len-gt-MOST_ROWS-clause-wide
 returns-then-len-gt-MOST_ROWS-clause-wide c =
+    let next : c.index-rows-front.result ≡ row_at c.args.rows.now c.args.front = get_or_read c.args.rows.now c.args.front c.index-rows-front.result c.requires.within c.index-rows-front.is [] in
     let li : c.loop-i.i < length c.args.rays.now.rows.items = omega arith in
     let ti = c.if-values-i-le0.false in
-    let up : pos 0 <ℤ entry c.args.values.now c.loop-i.i = omega (arith, ints) in
+    let up = above_of (dot (row_at c.args.rows.now c.args.front) (ray c.args.rays.now.rows.items c.loop-i.i)) (entry c.args.values.now c.loop-i.i) (c.requires.stand.each c.loop-i.i li) (omega (arith, ints)) in
     let l : c.loop-k.k < length c.in_ok-negatives.negatives.items = omega arith in
     let row = row_read c.args.cols c.args.equations.now c.args.rows.now c.args.front c.args.rays.now.rows.items c.args.values.now c.loop-i.i c.in_ok-negatives.negatives.items c.loop-k.next.items c.loop-k.zeros.rows c.loop-k.k c.index-j.result.now l c.index-j.ensures c.loop-k.invariant.built in
-    let p : IsPairRay c.args.rays.now.rows.items c.args.rays.now.zeros c.args.values.now c.loop-i.i c.index-j.result.now c.args.front c.in-Some.ray.row c.in-Some.ray.zeros = rw c.in-Some.is at c.in_ok-ray.ensures.some in
-    let made = pair_made c.args.cols c.args.equations.now c.args.rows.now c.args.front c.requires.within c.args.rays.now.rows.items c.args.rays.now.zeros c.requires.table c.requires.equation_cols c.requires.row_cols c.args.values.now c.requires.products c.requires.old_len c.loop-i.i c.index-j.result.now li row.left.0.within c.requires.spanned up row.left.0.negative c.in-Some.ray.row c.in-Some.ray.zeros p in
+    let p : IsPairRay (row_at c.args.rows.now c.args.front) c.args.rays.now.rows.items c.args.rays.now.zeros c.loop-i.i c.index-j.result.now c.args.front c.in-Some.ray.row c.in-Some.ray.zeros = rw (c.in-Some.is, next) at c.in_ok-ray.ensures.some in
+    let down = below_of (dot (row_at c.args.rows.now c.args.front) (ray c.args.rays.now.rows.items c.index-j.result.now)) (entry c.args.values.now c.index-j.result.now) (c.requires.stand.each c.index-j.result.now row.left.0.within) row.left.0.negative in
+    let made = pair_made c.args.cols c.args.equations.now c.args.rows.now c.args.front c.requires.within c.args.rays.now.rows.items c.args.rays.now.zeros c.requires.table c.requires.equation_cols c.requires.row_cols c.requires.old_len c.loop-i.i c.index-j.result.now li row.left.0.within c.requires.spanned up down c.in-Some.ray.row c.in-Some.ray.zeros p in
     let t = c.if-len-gt-MOST_ROWS.true in
     let n = c.len.ensures in
     let whole = c.push.new.self.ok.0 in
-    let more = row_more c.args.cols c.args.equations.now c.args.rows.now c.args.front c.args.rays.now.rows.items c.args.values.now c.requires.products c.loop-i.i c.index-j.result.now (drop (c.loop-k.k + 1) c.in_ok-negatives.negatives.items) c.loop-k.next.items c.loop-k.zeros.rows row c.in-Some.ray.row c.in-Some.ray.zeros made in
+    let more = row_more c.args.cols c.args.equations.now c.args.rows.now c.args.front c.args.rays.now.rows.items c.args.values.now c.requires.stand c.loop-i.i c.index-j.result.now (drop (c.loop-k.k + 1) c.in_ok-negatives.negatives.items) c.loop-k.next.items c.loop-k.zeros.rows row c.in-Some.ray.row c.in-Some.ray.zeros made in
     built_many c.args.cols c.args.equations.now c.args.rows.now c.args.front c.requires.within c.args.rays.now.rows.items c.args.rays.now.zeros.rows c.requires.table c.requires.equation_cols c.requires.row_cols c.requires.spanned (SeenPairs c.loop-i.i more.start) c.push.new.self.items c.push-in-loop-k.new.self.rows (rw (c.in_ok-push.ensures.items, c.in-Ok.ensures.ok) more.built) (omega arith)
 
 pub returns-clause-few : goal.returns-clause-few
