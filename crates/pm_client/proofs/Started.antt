@@ -2,9 +2,10 @@
 use Rattle.pm_client.proofs.SameKind.{same_kind_apart, same_kind_refl}
 use Rattle.pm_client.specs.Starts.{kind_at, next_count, place_in, same_kind, started_at, started_once}
 use Rattle.pm_props.specs.declared.kind.Kind.{Kind}
-use Rattle.std.proofs.Common.{ap, arith, drop, get_or, length, refl, sym, true, ◌∙◌, ◌≢◌}
+use Rattle.std.proofs.Common.{true≢false, ap, arith, drop, false, get_or, length, refl, sym, true, ◌∙◌, ◌≢◌}
 use Rattle.std.proofs.Math.ListN.{set}
-use Rattle.std.specs.Prelude.{List, Some, [], map, suc, zero, ℕ, ◌+◌, ◌<◌, ◌∷◌, ◌≡◌}
+use Rattle.std.specs.Option.{is_some}
+use Rattle.std.specs.Prelude.{Bool, List, Some, [], map, suc, zero, ℕ, ◌+◌, ◌<◌, ◌∷◌, ◌≡◌}
 
 started_head : (p : Kind × ℕ) (rest : List (Kind × ℕ)) → started_at 0 (p ∷ rest) ≡ (p.0, next_count p.1) ∷ rest
 started_head (a, b) rest = refl
@@ -56,3 +57,14 @@ kind_map f (y ∷ ys) (suc i) x h is = kind_map f ys i x (omega arith) is
 
 pub some_is : (a b : Kind) → Some a ≡ Some b → a ≡ b
 some_is a b h = cc
+
+-- where one stands at some place there is a first one
+pub one_is_there : (kind : Kind) (n i : ℕ) (clients : List (Kind × ℕ)) → kind_at i clients ≡ Some kind → is_some (place_in kind n clients) ≡ true
+one_is_there kind n i [] h = absurd (true≢false (sym (ap is_some h)))
+one_is_there kind n zero ((a, b) ∷ rest) h =
+    let same : same_kind a kind ≡ true = ap (λ k. same_kind k kind) (some_is a kind h) ∙ same_kind_refl kind in rw same refl
+one_is_there kind n (suc i) ((a, b) ∷ rest) h = by (same_kind a kind) refl (one_is_there kind (suc n) i rest h)
+  where
+    by : (t : Bool) → same_kind a kind ≡ t → is_some (place_in kind (suc n) rest) ≡ true → is_some (place_in kind n ((a, b) ∷ rest)) ≡ true
+    by true e later = rw e refl
+    by false e later = rw e later

@@ -33,8 +33,8 @@ fn run_box(
     client.run(alloc, view, draft)
 }
 
-/// The place of the first client of a kind.
-pub fn place_of(clients: &[Box<dyn Client>], kind: Kind) -> Option<usize>
+// The place of the first client of a kind.
+fn place_of(clients: &[Box<dyn Client>], kind: Kind) -> Option<usize>
     ensures place { result ≡ place_in kind 0 (map tally clients.now) }
     ensures within { IfSome result (λ i. i < length clients.now) }
     ensures kind { IfSome result (λ i. kind_at i (map tally clients.now) ≡ Some kind) }
@@ -45,6 +45,16 @@ pub fn place_of(clients: &[Box<dyn Client>], kind: Kind) -> Option<usize>
         }
     }
     None
+}
+
+/// Whether some client is of the kind. Looked at first is the client at this place, which is a guess.
+pub fn has_client(clients: &[Box<dyn Client>], kind: Kind, place: usize) -> bool
+    ensures { result ≡ has_client kind (map tally clients.now) }
+{
+    if place < clients.len() && kind_of_box(&clients[place]) == kind {
+        return true;
+    }
+    place_of(clients, kind).is_some()
 }
 
 // Runs the client at a place.

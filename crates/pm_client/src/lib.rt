@@ -20,7 +20,7 @@ use std::alloc::{AllocError, AllocFailed, Global};
 mod boxes;
 mod values;
 
-pub use boxes::{place_of, run_first};
+pub use boxes::{has_client, run_first};
 pub use values::{
     counts_of, edges_of, lattice_of, matrix_of, number_of, primitive_rows, put_value, sets_of,
     whole_of,

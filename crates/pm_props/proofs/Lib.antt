@@ -1,6 +1,7 @@
 pub mod Numbers
 pub mod Members
 pub mod Every
+pub mod Looks
 pub mod Places
 pub mod NameLemmas
 pub mod NameBytes

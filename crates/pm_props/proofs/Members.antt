@@ -1,13 +1,14 @@
 -- What is in a set that is made of others, and that sets with the same members are equal.
-use Rattle.std.proofs.Common.{◌≡◌, ℕ, zero, suc, ◌+◌, ◌*◌, ◌/◌, ◌%◌, ◌^◌, ◌<◌, ◌≤◌, min, max, Bool, true, false, not, ◌&&◌, ◌||◌, eqb, List, [], ◌∷◌, length, map, refl, sym, ap, ◌∙◌, inl, inr, arith}
+use Rattle.std.proofs.Common.{◌≡◌, ℕ, zero, suc, ◌+◌, ◌*◌, ◌/◌, ◌%◌, ◌^◌, ◌<◌, ◌≤◌, min, max, Bool, true, false, true≢false, not, ◌&&◌, ◌||◌, eqb, List, [], ◌∷◌, length, map, Some, refl, subst, sym, ap, ◌∙◌, inl, inr, arith}
 use Rattle.std.specs.Prelude.{bit_and}
-use Rattle.std.specs.Int.{bit_at}
+use Rattle.std.specs.Int.{bit_at, trailing_zeros, w128}
 use Rattle.std.specs.List.{range_with_len}
 use Rattle.std.proofs.lemmas.Nat.{or_lt, xor_lt, and_le_l, pow_below, one_shl}
-use Rattle.std.proofs.lemmas.Nat.Bits.{shr_and_one, bit_at_and, bit_at_or, bit_at_xor, bit_at-lt, bit_at-zero, bit_at-pow_same, bit_at-pow_other, same_from_bits_below}
-use Rattle.std.proofs.lemmas.Bool.{cases_eq, eq-eqb, ne_eqb, and_parts}
+use Rattle.std.proofs.lemmas.Nat.Bits.{shr_and_one, bit_at_and, bit_at_or, bit_at_xor, bit_at-lt, bit_at-zero, bit_at-pow_same, bit_at-pow_other, bit_at-trailing_zeros, bit_at_above, same_from_bits_below}
+use Rattle.std.proofs.lemmas.Bool.{cases_eq, cases_lt, eq-eqb, ne_eqb, and_parts}
 use Rattle.pm_props.specs.declared.property.PropId.{PropId}
-use Rattle.pm_props.specs.Properties.{count, every_property, number}
+use Rattle.pm_props.specs.Properties.{count, every_property, number, property_at}
+use Rattle.pm_props.proofs.Numbers.{property_at-number}
 use Rattle.pm_props.specs.Sets.{has, only, union, intersection, difference, IsSubset}
 
 -- ---- one bit
@@ -134,3 +135,49 @@ both_from_subset s t below h = same_members (intersection s t) s (intersection_b
 
 pub empty_from_none : (s : ℕ) → s < 2 ^ count → ((p : PropId) → has s p ≡ false) → s ≡ 0
 empty_from_none s below none = same_members s 0 below (omega arith) (λ p. none p ∙ sym (has-empty p))
+
+-- what is taken away leaves a number that is not greater, and a lesser one where a property is gone
+pub difference_most : (s t : ℕ) → s < 2 ^ count → difference s t ≤ s
+unfolding intersection
+difference_most s t below =
+    let r = difference s t in
+    let both : intersection s r ≡ r = same_members (intersection s r) r (intersection_below s r below) (difference_below s t below)
+    (λ q. has-intersection s r q ∙ ap (λ b. has s q && b) (has-difference s t q) ∙ twice (has s q) (not (has t q)) ∙ sym (has-difference s t q)) in
+    subst (λ n. n ≤ s) both (and_le_l s r)
+  where
+    twice : (a b : Bool) → (a && (a && b)) ≡ (a && b)
+    twice true b = refl
+    twice false b = refl
+
+pub gone_less : (s r : ℕ) (p : PropId) → r ≤ s → has s p ≡ true → has r p ≡ false → r < s
+gone_less s r p most there gone = elim (cases_eq r s) [
+  | inl same ↦ absurd (true≢false (sym there ∙ ap (λ n. has n p) (sym same) ∙ gone))
+  | inr other ↦ omega arith
+]
+
+-- ---- the least number of a set
+-- the property whose number is the place of the lowest 1
+pub record IsFirst (s : ℕ) (p : PropId) : Type 0 where
+  pub inside : has s p ≡ true
+  pub least : (q : PropId) → number q < number p → has s q ≡ false
+
+pub first_of : (s : ℕ) → s < 2 ^ count → 0 < s → (p : PropId) × (property_at (trailing_zeros w128 s) ≡ Some p) × IsFirst s p
+unfolding has
+first_of s below some =
+    let t = trailing_zeros w128 s in
+    let low = bit_at-trailing_zeros w128 s some (omega (arith, wide_enough)) in
+    let within : t < count = elim (cases_lt t count) [
+      | inl l ↦ l
+      | inr l ↦ absurd (let e = bit_at_above s count t below l in let f = low.1 in omega arith)
+    ] in
+    let found = property_of t within in (
+      found.0,
+      ap property_at (sym found.1) ∙ property_at-number found.0,
+      record {
+        inside = rw (found.1, low.1) refl;
+        least = λ q l. ap (λ b. eqb b 1) (low.2 (number q) (rw found.1 at l));
+      },
+    )
+  where
+    wide_enough : 2 ^ count ≤ 2 ^ 128
+    wide_enough = omega arith

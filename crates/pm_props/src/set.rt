@@ -1,6 +1,6 @@
 // Sets of properties.
 
-ghost use Rattle.std.specs.Prelude.{◌≡◌, ◌^◌, ◌<◌, ◌↔◌, ◌&&◌, ◌||◌, not, false, IsTrue, IfOk, nat_eq};
+ghost use Rattle.std.specs.Prelude.{◌≡◌, ◌^◌, ◌<◌, ◌≤◌, ◌↔◌, ◌&&◌, ◌||◌, not, false, IsTrue, IfNone, IfOk, IfSome, nat_eq};
 ghost use Rattle.pm_props.specs.Properties.{count, number};
 ghost use Rattle.pm_props.specs.Sets.{has, only, union, intersection, difference, set_of, IsSubset, members};
 
@@ -91,6 +91,7 @@ impl PropSet {
     /// What is in this set and not in the other.
     pub fn difference(self, other: PropSet) -> PropSet
         ensures value { result ≡ difference self other }
+        ensures most { result ≤ self }
         ensures members { (p : PropId) → has result p ≡ (has self p && not (has other p)) }
     {
         PropSet {
@@ -112,6 +113,27 @@ impl PropSet {
         ensures none { IsTrue result ↔ ((p : PropId) → has self p ≡ false) }
     {
         self.bits == 0
+    }
+
+    /// The property of the least number in the set, if it has one.
+    pub fn first(self) -> Option<PropId>
+        ensures some { IfSome result (λ p. IsTrue (has self p)) }
+        ensures least { IfSome result (λ p. (q : PropId) → number q < number p → has self q ≡ false) }
+        ensures none { IfNone result ((p : PropId) → has self p ≡ false) }
+    {
+        if self.bits == 0 {
+            return None;
+        }
+        PropId::at(self.bits.trailing_zeros() as u8)
+    }
+
+    /// The set without this property.
+    pub fn without(self, p: PropId) -> PropSet
+        ensures members { (q : PropId) → has result q
+            ≡ (has self q && not (nat_eq (number p) (number q))) }
+        ensures less { IsTrue (has self p) → result < self }
+    {
+        self.difference(PropSet::of(p))
     }
 
     /// The set as a number.

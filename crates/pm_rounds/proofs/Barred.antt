@@ -5,8 +5,7 @@ use Rattle.pm_props.specs.declared.kind.RuleId.{RuleId}
 use Rattle.std.proofs.Common.{ap, arith, false, inl, inr, refl, subst, sym, true, ◌∙◌}
 use Rattle.std.proofs.lemmas.Bool.{cases_lt}
 use Rattle.std.specs.List.{list_any}
-use Rattle.std.specs.Option.{is_some}
-use Rattle.std.specs.Prelude.{Bool, List, Option, Some, [], nat_eq, not, slice_get, ℕ, ◌+◌, ◌++◌, ◌<◌, ◌≤◌, ◌∷◌, ◌||◌, ◌≡◌}
+use Rattle.std.specs.Prelude.{Bool, List, Some, [], nat_eq, slice_get, ℕ, ◌+◌, ◌++◌, ◌<◌, ◌≤◌, ◌∷◌, ◌||◌, ◌≡◌}
 
 -- of the first n rules exactly those that the test bars are in the list, and no later ones
 pub record FirstBarred (book : List Rule) (test : RuleId → Rule → Bool) (n : ℕ) (barred : List RuleId) : Type 0 where
@@ -74,10 +73,3 @@ first_holds a a' b h t = rw (sym h ∙ t) t
 
 pub second_decides : (a a' b b' : Bool) → a ≡ a' → a ≡ false → b ≡ b' → b ≡ (a' || b')
 second_decides a a' b b' h f k = rw (sym h ∙ f) k
-
-pub none_is : {r w : Option ℕ} {n : Bool} → is_some r ≡ not n → r ≡ w → n ≡ not (is_some w)
-none_is {r} {w} {n} h k = twice n ∙ ap not (sym h ∙ ap is_some k)
-  where
-    twice : (b : Bool) → b ≡ not (not b)
-    twice true = refl
-    twice false = refl

@@ -1,6 +1,7 @@
 pub mod Traces
 pub mod Standing
 pub mod Barred
+pub mod WrongNames
 pub mod BarredReasons
 pub mod Running
 pub mod Measure

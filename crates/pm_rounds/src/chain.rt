@@ -2,8 +2,7 @@
 
 ghost use Rattle.pm_rounds.specs.Chains.{AreBarred, is_barred_on, is_excluded, is_truth, is_wrong, place_of_rule, some_wrong, table};
 ghost use Rattle.pm_object.specs.State.{is_disabled, read_at, value_of};
-ghost use Rattle.pm_props.specs.Properties.{is_in_use, every_property, has_program};
-ghost use Rattle.pm_props.specs.Kinds.{names_of};
+ghost use Rattle.pm_props.specs.Properties.{is_in_use, every_property};
 ghost use Rattle.pm_props.specs.Places.{same_place};
 ghost use Rattle.pm_props.specs.Sets.{has, set_of};
 ghost use Rattle.pm_props.specs.declared.property.PropId.{PropId};
@@ -11,9 +10,9 @@ ghost use Rattle.std.specs.List.{list_any};
 ghost use Rattle.std.specs.Prelude.{false, true, IfOk, filter, find, length, map, nat_eq, ◌&&◌, ◌||◌, ◌≡◌, ◌≤◌};
 ghost use Rattle.pm_limits.specs.Limits.{most_rules};
 
-use pm_client::{Client, place_of};
+use pm_client::{Client, has_client};
 use pm_object::{Excluded, Object};
-use pm_rules::Rule;
+use pm_rules::{Rule, has_programs};
 use pm_types::{ObjectType, PropId, PropSet, RuleId, Value};
 use std::alloc::{AllocError, Global};
 
@@ -77,12 +76,20 @@ fn is_wrong(rule: &Rule, object: &Object, sub: Option<u8>, p: PropId) -> bool
     is_wrongly_false(rule, object, sub, p) || is_wrongly_true(rule, object, sub, p)
 }
 
-// Whether one of these preconditions is held there with the wrong value.
-fn some_is_wrong(rule: &Rule, object: &Object, sub: Option<u8>, properties: &[PropId]) -> bool
-    ensures { result ≡ list_any
-        (is_wrong rule.now (read_at sub object.now.state.held)) properties.now }
+// Whether a precondition of the rule is held there with the wrong value.
+fn some_is_wrong(rule: &Rule, object: &Object, sub: Option<u8>) -> bool
+    ensures { result ≡ some_wrong rule.now (read_at sub object.now.state.held) }
 {
-    properties.iter().any(|p| is_wrong(rule, object, sub, *p))
+    let mut rest = rule.conditions();
+    'look: loop {
+        let Some(p) = rest.first() else {
+            return false;
+        };
+        if is_wrong(rule, object, sub, p) {
+            return true;
+        }
+        rest = rest.without(p);
+    }
 }
 
 /// The first precondition of the rule that is held there with the wrong value.
@@ -96,22 +103,11 @@ pub fn first_wrong(rule: &Rule, object: &Object, sub: Option<u8>) -> Option<Prop
         .find(|p| is_wrong(rule, object, sub, *p))
 }
 
-// Whether one of these properties is a name of the rule's kind, and of programs.
-fn names_program(rule: &Rule, properties: &[PropId]) -> bool
-    ensures { result ≡ list_any (λ p.
-        has (names_of rule.now.kind) p && has_program p) properties.now }
-{
-    let names = rule.kind.names();
-    properties
-        .iter()
-        .any(|p| names.contains(*p) && p.is_of_programs())
-}
-
 /// Where an exclusion of the rule stands.
 pub fn place_of_rule(sub: Option<u8>, rule: &Rule) -> Option<u8>
     ensures { result ≡ place_of_rule sub rule.now }
 {
-    if names_program(rule, &PropId::every()) {
+    if has_programs(rule.kind.names()) {
         sub
     } else {
         None
@@ -148,8 +144,7 @@ fn is_ruled_out(object: &Object, sub: Option<u8>, id: RuleId, rule: &Rule) -> bo
     ensures { result ≡ (is_excluded object.now.state sub id rule.now
         || some_wrong rule.now (read_at sub object.now.state.held)) }
 {
-    is_excluded(object.excluded(), id, place_of_rule(sub, rule))
-        || some_is_wrong(rule, object, sub, &PropId::every())
+    is_excluded(object.excluded(), id, place_of_rule(sub, rule)) || some_is_wrong(rule, object, sub)
 }
 
 // Whether the object bars the rule of this number there, whatever the clients.
@@ -171,7 +166,7 @@ fn is_barred_on(
 ) -> bool
     ensures { result ≡ is_barred_on (map tally clients.now) object.now.state sub id rule.now }
 {
-    is_barred_by(object, sub, id, rule) || place_of(clients, rule.kind).is_none()
+    is_barred_by(object, sub, id, rule) || !has_client(clients, rule.kind, usize::from(id.0))
 }
 
 /// The rules of the book that are barred on the object, for who asks this program, if one is asked.

@@ -8,7 +8,7 @@ ghost use Rattle.std.specs.Prelude.{IfOk, Some, length, map, option_map, ◌↔�
 ghost use Rattle.pm_limits.specs.Limits.{most_rules};
 
 use crate::chain::{excludes, first_wrong, place_of_rule, table};
-use pm_client::{Client, place_of};
+use pm_client::{Client, has_client};
 use pm_object::{Excluded, Object, Why};
 use pm_rules::Rule;
 use pm_script::Bar;
@@ -64,7 +64,7 @@ fn reason(
         excluded_as(object.excluded(), id, place_of_rule(sub, rule)),
         first_wrong(rule, object, sub),
         object.is_disabled(rule.label.as_str()),
-        place_of(clients, rule.kind).is_some(),
+        has_client(clients, rule.kind, usize::from(id.0)),
     )
 }
 

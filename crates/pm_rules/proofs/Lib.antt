@@ -5,3 +5,4 @@ pub mod NeededNames
 pub mod Opens
 pub mod Refutes
 pub mod RowOrder
+pub mod Tagged

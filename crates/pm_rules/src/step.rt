@@ -1,9 +1,7 @@
 // What a rule asks of the names held.
 
 ghost use Rattle.std.specs.Prelude.{◌≡◌, ◌↔◌, ◌&&◌, IsTrue, false, filter};
-ghost use Rattle.std.specs.List.{list_any};
-ghost use Rattle.pm_props.specs.Properties.{has_program};
-ghost use Rattle.pm_props.specs.Sets.{has, set_of};
+ghost use Rattle.pm_props.specs.Sets.{set_of};
 ghost use Rattle.pm_props.specs.Kinds.{names_of};
 ghost use Rattle.pm_rules.specs.Rules.{conditions, inputs, names_of_rule, is_barred, IsInUse, IsEnabled};
 ghost use Rattle.pm_rules.specs.Steps.{tag_test, some_has, some_program, is_fresh, is_fresh_somewhere, has_some_tag, blocked, step_of, IsReady, IsOpen};
@@ -49,18 +47,19 @@ impl Tag {
     }
 
     /// Whether a property of the set has the tag.
-    #[tactic(auto, unfolding(crate::specs::Steps::some_has))]
     pub fn is_in(self, set: PropSet) -> bool
         ensures { result ≡ some_has self set }
     {
-        self.is_among(set, &PropId::every())
-    }
-
-    // Whether one of these properties is in the set and has the tag.
-    fn is_among(self, set: PropSet, list: &[PropId]) -> bool
-        ensures { result ≡ list_any (λ p. has set p && tag_test self p) list.now }
-    {
-        list.iter().any(|p| set.contains(*p) && self.is_of(*p))
+        let mut rest = set;
+        'look: loop {
+            let Some(p) = rest.first() else {
+                return false;
+            };
+            if self.is_of(p) {
+                return true;
+            }
+            rest = rest.without(p);
+        }
     }
 }
 
@@ -168,19 +167,20 @@ fn is_fresh_with_programs(kind: &Kind) -> bool
     has_programs(kind.names()) && is_fresh_somewhere(kind)
 }
 
-// Whether a property of the set is one of linear programs.
-#[tactic(auto, unfolding(crate::specs::Steps::some_program))]
-fn has_programs(set: PropSet) -> bool
+/// Whether a property of the set is one of linear programs.
+pub fn has_programs(set: PropSet) -> bool
     ensures { result ≡ some_program set }
 {
-    is_program_among(set, &PropId::every())
-}
-
-// Whether one of these properties is in the set and one of linear programs.
-fn is_program_among(set: PropSet, list: &[PropId]) -> bool
-    ensures { result ≡ list_any (λ p. has set p && has_program p) list.now }
-{
-    list.iter().any(|p| set.contains(*p) && p.is_of_programs())
+    let mut rest = set;
+    'look: loop {
+        let Some(p) = rest.first() else {
+            return false;
+        };
+        if p.is_of_programs() {
+            return true;
+        }
+        rest = rest.without(p);
+    }
 }
 
 // Some of the tags.

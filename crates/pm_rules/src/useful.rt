@@ -32,7 +32,7 @@ impl Rule {
     pub fn finds_one(&self, names: PropSet, barred: &[RuleId], of: PropSet, id: RuleId) -> bool
         ensures { IsTrue result ↔ FindsOne names barred.now of id self.now }
     {
-        self.may_be_used(names, barred, id) && !self.kind.targets.intersection(of).is_empty()
+        !self.kind.targets.intersection(of).is_empty() && self.may_be_used(names, barred, id)
     }
 }
 
