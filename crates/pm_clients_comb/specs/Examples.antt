@@ -29,7 +29,9 @@ pub record IncidenceIsRead : Type 0 where
   pub finds : FindsIncidence (standard_kind client.Incidence)
   pub finds_wide : FindsIncidence (standard_kind client.IncidenceWide)
   pub no_sizes : ¬ (FindsIncidence (standard_kind client.VertexSizes))
-  pub no_rays_alone : ¬ (FindsIncidence (record (standard_kind client.Incidence) { sources = set_of (Vertices ∷ []) }))
+  pub no_rays_alone : ¬ (FindsIncidence (record (standard_kind client.Incidence) {
+    sources = set_of (Vertices ∷ []);
+  }))
   -- the wide one has no evidence
   pub memory : (v : ViewSeen) → SetsFail work.IncidenceWide v Memory
   pub no_evidence : (v : ViewSeen) (e : Evidence) → ¬ (SetsFail work.IncidenceWide v (Failed e))

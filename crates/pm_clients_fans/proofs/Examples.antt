@@ -1,10 +1,10 @@
 -- The examples of numbers hold.
 use Rattle.pm_vector.proofs.Lists.{Among, Contains_among, among_Contains, here, there}
 use Rattle.pm_clients_fans.specs.Examples.{NumbersAreRead}
-use Rattle.std.proofs.Common.{arith, refl}
+use Rattle.std.proofs.Common.{ap, arith, refl}
 use Rattle.std.proofs.lemmas.Int.{ints}
 use Rattle.std.proofs.lemmas.List.Elements.{All-cons, All-nil}
-use Rattle.std.specs.Prelude.{List, [], ◌∷◌, ◌≡◌}
+use Rattle.std.specs.Prelude.{List, [], length, ◌∷◌, ◌≡◌}
 use lib.IntN.{pos, ℤ}
 use lib.Signed.{◌≤ℤ◌}
 
@@ -34,4 +34,7 @@ numbers_are_read = record {
   no_simplex = λ h. let e = h.0 in omega (arith, ints);
   set_left = λ h. h;
   number_left = λ h. h;
+  finds_dims = record { targets = refl; sources = refl; lists = refl };
+  finds_dims_wide = record { targets = refl; sources = refl; lists = refl };
+  finds_no_dims = λ h. let e : 0 ≡ 1 = ap length h.lists in omega arith;
 }

@@ -16,7 +16,7 @@ use Rattle.std.proofs.lemmas.Bool.{and_from, and_parts, le-leb, leb-true, lt-ltb
 use Rattle.std.proofs.lemmas.Int.{ints}
 use Rattle.std.proofs.lemmas.List.{length-append, length-map, take_more}
 use Rattle.std.specs.List.{All, Contains, list_all}
-use Rattle.std.specs.Prelude.{Err, IfOk, List, None, Ok, Result, Some, [], length, map, nat_le, nat_lt, slice_get, suc, ℕ, ◌&&◌, ◌+◌, ◌<◌, ◌≤◌, ◌∷◌, ◌≡◌, ◌^◌, not, take, T}
+use Rattle.std.specs.Prelude.{Err, IfOk, List, None, Ok, OnOk, Result, Some, [], length, map, nat_le, nat_lt, slice_get, suc, ℕ, ◌&&◌, ◌+◌, ◌<◌, ◌≤◌, ◌∷◌, ◌≡◌, ◌^◌, not, take, T}
 use lib.IntN.{negsuc, pos, ℤ}
 use lib.Signed.{◌≤ℤ◌, lt_z, lt_z_yes, lt_z_no, ◌<ℤ◌}
 use Rattle.pm_limits.specs.Limits.{most_rows}
@@ -147,3 +147,7 @@ dims_form V L n sets ks few lines many h r =
 pub if_ok : {T E : Type 0} (r : Result T E) (P Q : T → Type 0) → ((x : T) → P x → Q x) → IfOk r P → IfOk r Q
 if_ok (Ok x) P Q f h = f x h
 if_ok (Err e) P Q f h = tt
+
+pub on_ok : {T E : Type 0} (r : Result T E) {P Q : Type 0} → (P → Q) → OnOk r P → OnOk r Q
+on_ok (Ok x) f h = f h
+on_ok (Err e) f h = tt

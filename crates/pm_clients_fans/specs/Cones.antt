@@ -1,5 +1,5 @@
 -- What the client `fan_dims` reads, and where it answers.
-use Rattle.std.specs.Prelude.{◌≡◌, Some, List, length}
+use Rattle.std.specs.Prelude.{◌≡◌, Bool, Some, List, false, length, true}
 use Rattle.pm_vector.specs.Rows.{Row}
 use Rattle.pm_client.specs.Sound.{AreRowsOf}
 use Rattle.pm_fan.specs.Dimensions.{NoConeEvidence}
@@ -20,3 +20,8 @@ pub record ConesStay (v : ViewSeen) : Type 0 where
   pub index : IndexSets
   pub read : ReadsCones v V L index
   pub stay : index.cols ≡ length V → NoConeEvidence v.cols V L index.rows
+
+-- so it is where the elimination is by numbers of the range alone, and not by wide numbers
+abbrev pub ConesStayBy : Bool → ViewSeen → Type 0
+ConesStayBy false v = ConesStay v
+ConesStayBy true v = Unit {0}

@@ -1,6 +1,9 @@
 -- What numbers and sets show.
 use Rattle.pm_clients_fans.specs.Numbers.{IsMost}
+use Rattle.pm_clients_fans.specs.Works.{FindsDims}
 use Rattle.pm_relations.specs.Fans.{AreOne, AreSimplices}
+use Rattle.pm_standard.specs.Table.{standard_kind}
+use Rattle.pm_standard.specs.declared.standard.StandardClient.TheVariants as client
 use Rattle.std.specs.Prelude.{[], ◌∷◌}
 use lib.IntN.{pos, negsuc}
 
@@ -20,3 +23,7 @@ pub record NumbersAreRead : Type 0 where
   pub no_simplex : ¬ (AreSimplices (pos 0) ((0 ∷ 4 ∷ []) ∷ []) (pos 3 ∷ []))
   pub set_left : ¬ (AreSimplices (pos 0) ([] ∷ []) [])
   pub number_left : ¬ (AreSimplices (pos 0) [] (pos 0 ∷ []))
+  -- which clients find the dimensions of cones
+  pub finds_dims : FindsDims (standard_kind client.FanDims)
+  pub finds_dims_wide : FindsDims (standard_kind client.FanDimsWide)
+  pub finds_no_dims : ¬ (FindsDims (standard_kind client.FanDim))

@@ -2,8 +2,8 @@
 
 ghost use Rattle.pm_client.specs.Sound.{FailsRightly, IsSound};
 ghost use Rattle.pm_client.specs.declared.ClientFail.TheVariants.{Memory};
-ghost use Rattle.pm_clients_fans.specs.Cones.{ConesStay};
-ghost use Rattle.pm_clients_fans.specs.Works.{FanFails};
+ghost use Rattle.pm_clients_fans.specs.Cones.{ConesStayBy};
+ghost use Rattle.pm_clients_fans.specs.Works.{FanFails, FindsDims};
 ghost use Rattle.pm_clients_fans.specs.declared.client.FanWork.TheVariants as work;
 ghost use Rattle.pm_standard.specs.Table.{standard_kind};
 ghost use Rattle.pm_standard.specs.declared.standard.StandardClient.TheVariants as client;
@@ -25,12 +25,13 @@ pub enum FanWork {
     FanPure,
     FanSimplicial,
     FanSize,
+    FanDimsWide,
 }
 
 impl FanWork {
     ghost use Rattle.pm_clients_fans.specs.Works.{fan_client};
 
-    /// All of them, in the order of the standard book.
+    /// Those of the standard clients, in the order of the standard book.
     pub fn every() -> [FanWork; 5]
         ensures { map fan_client result ≡ client.FanDims ∷ client.FanDim ∷ client.FanPure
             ∷ client.FanSimplicial ∷ client.FanSize ∷ [] }
@@ -43,14 +44,21 @@ impl FanWork {
             Self::FanSize,
         ]
     }
+
+    /// Those of the clients that answer by wide numbers, in the order of their rules.
+    pub fn wide() -> [FanWork; 1]
+        ensures { map fan_client result ≡ client.FanDimsWide ∷ [] }
+    {
+        [Self::FanDimsWide]
+    }
 }
 
-/// The standard clients of fans.
+/// The clients of fans.
 #[derive(Debug, Drop)]
 pub struct FanFamily;
 
 /// A client of fans. `fan_dims` fails exactly where a step of the elimination of the rows of a maximal cone leaves the
-/// range, the others for want of memory alone.
+/// range, and the wide one only there; the others for want of memory alone.
 pub type FanClient = FamilyClient<FanFamily>;
 
 impl Family for FanFamily {
@@ -71,6 +79,7 @@ impl Family for FanFamily {
             FanWork::FanPure => StandardClient::FanPure,
             FanWork::FanSimplicial => StandardClient::FanSimplicial,
             FanWork::FanSize => StandardClient::FanSize,
+            FanWork::FanDimsWide => StandardClient::FanDimsWide,
         }
     }
 
@@ -81,30 +90,31 @@ impl Family for FanFamily {
         draft: &mut Draft,
     ) -> Result<(), ClientFail> {
         match work {
-            FanWork::FanDims => fan_dims(alloc, view, draft),
+            FanWork::FanDims => fan_dims(alloc, view, draft, false),
             FanWork::FanDim => fan_dim(view, draft),
             FanWork::FanPure => fan_pure(view, draft),
             FanWork::FanSimplicial => fan_simplicial(view, draft),
             FanWork::FanSize => fan_size(view, draft),
+            FanWork::FanDimsWide => fan_dims(alloc, view, draft, true),
         }
     }
 }
 
 // MAXIMAL_CONES_DIMS: the rank of LINEALITY_SPACE with the rays of each of MAXIMAL_CONES.
-fn fan_dims(alloc: Global, view: &View, draft: &mut Draft) -> Result<(), ClientFail>
-    requires kind { view.now.kind ≡ standard_kind client.FanDims }
+fn fan_dims(alloc: Global, view: &View, draft: &mut Draft, wide: bool) -> Result<(), ClientFail>
+    requires kind { FindsDims view.now.kind }
     requires empty { draft.old ≡ record { kind = view.now.kind; values = [] } }
     ensures draft { draft.new.kind ≡ draft.old.kind }
     ensures sound { OnOk result (IsSound view.now draft.new) }
     ensures failed { IfErr result (FailsRightly view.now) }
     ensures fails { IfErr result (FanFails work.FanDims view.now) }
-    ensures stays { OnOk result (ConesStay view.now) }
+    ensures stays { OnOk result (ConesStayBy wide view.now) }
 {
     prove!(view.of() == ObjectType::Fan);
     let rays = primitive_rows(alloc, matrix_of(view, PropId::Vertices))?;
     let lines = primitive_rows(alloc, matrix_of(view, PropId::LinealitySpace))?;
     let cones = sets_of(view, PropId::MaximalCones);
-    let dims = dims_of(alloc, &rays, &lines, cones, view.cols())?;
+    let dims = dims_of(alloc, &rays, &lines, cones, view.cols(), wide)?;
     put_value(
         draft,
         PropId::MaximalConesDims,

@@ -9,7 +9,7 @@ ghost use Rattle.pm_relations.specs.Fans.{AreOne, AreSimplices};
 ghost use Rattle.pm_types.specs.Forms.{is_counts_form, is_sets_form};
 ghost use Rattle.std.specs.List.{All};
 ghost use Rattle.std.specs.Option.{option_copied, unwrap_or};
-ghost use Rattle.std.specs.Prelude.{IfErr, IfOk, IsTrue, OnOk, length, map, ◌+◌, ◌<◌, ◌^◌, ◌≡◌, ◌≤◌, ◌↔◌, pos};
+ghost use Rattle.std.specs.Prelude.{IfErr, IfOk, IsTrue, OnOk, false, length, map, ◌+◌, ◌<◌, ◌^◌, ◌≡◌, ◌≤◌, ◌↔◌, pos};
 ghost use lib.IntN.{negsuc, ◌+ℤ◌};
 ghost use Rattle.pm_limits.specs.Limits.{most_columns, most_rows};
 
@@ -20,12 +20,14 @@ use pm_vector::Ints;
 use std::alloc::Global;
 
 /// The dimensions of the cones whose rays the sets name, over the lines; none where the sets are not of so many rays.
+/// With `wide` by wide numbers where those of the range do not suffice.
 pub(crate) fn dims_of(
     alloc: Global,
     rays: &[Ints],
     lines: &[Ints],
     cones: &Sets,
     cols: usize,
+    wide: bool,
 ) -> Result<Vec<i64>, ElimFail>
     requires rays { HasCols cols rays.now }
     requires lines { HasCols cols lines.now }
@@ -35,7 +37,7 @@ pub(crate) fn dims_of(
     ensures dims { IfOk result (λ d. cones.now.cols ≡ length rays.now
         → AreDimensions rays.now lines.now cones.now.rows d.items) }
     ensures form { IfOk result (λ d. IsTrue (is_counts_form d.items)) }
-    ensures stay { OnOk result (cones.now.cols ≡ length rays.now
+    ensures stay { OnOk result (wide ≡ false → cones.now.cols ≡ length rays.now
         → NoConeEvidence cols rays.now lines.now cones.now.rows) }
     ensures wide { IfErr result (λ f. IfWide f (IsConeEvidence cols rays.now lines.now cones.now.rows)) }
     ensures list { IfErr result (λ f. IfWide f (λ e. e.list ≡ list.Rows)) }
@@ -43,7 +45,7 @@ pub(crate) fn dims_of(
     if cones.cols() as usize != rays.len() {
         return Ok(Vec::new(alloc));
     }
-    cone_dims(alloc, rays, lines, cones, cols)
+    cone_dims(alloc, rays, lines, cones, cols, wide)
 }
 
 /// The greatest of the numbers.

@@ -36,7 +36,8 @@ abbrev pub FailsForProgram : ViewSeen → ClientFail → Type 0
 FailsForProgram v Memory = Unit {0}
 FailsForProgram v (Failed e) = IsWideFeasibility v e
 
--- `feasible_lp` fails so, the wide one too; those that thin fail for want of memory, or with evidence that holds of the view
+-- `feasible_lp` fails so, the wide one too; those that thin fail for want of memory, or with evidence that holds of the
+-- view
 abbrev pub RedundancyFails : RedundancyWork → ViewSeen → ClientFail → Type 0
 RedundancyFails redundancy.FeasibleLp v e = FailsForProgram v e
 RedundancyFails redundancy.FeasibleLpWide v e = FailsForProgram v e

@@ -4,20 +4,17 @@ ghost use Rattle.pm_client.specs.Sound.{EliminatesRows, FailsRightly, IsSound, a
 ghost use Rattle.pm_client.specs.declared.ClientFail.TheVariants.{Memory};
 ghost use Rattle.pm_clients_geom.specs.Lists.{StaysInRange};
 ghost use Rattle.pm_clients_geom.specs.Ranks.{IsListRank};
-ghost use Rattle.pm_elim.specs.Evidence.{IfWide, IsEvidence, NoEvidence};
 ghost use Rattle.pm_elim.specs.declared.evidence.ElimList.TheVariants as list;
 ghost use Rattle.pm_object.specs.Reading.{IsView};
 ghost use Rattle.pm_standard.specs.Table.{standard_kind};
 ghost use Rattle.pm_props.specs.Sets.{has};
 ghost use Rattle.pm_props.specs.declared.property.PropId.TheVariants as property;
 ghost use Rattle.pm_standard.specs.declared.standard.StandardClient.TheVariants as client;
-ghost use Rattle.pm_vector.specs.Bases.{IsRank};
-ghost use Rattle.pm_vector.specs.Rows.{HasCols};
-ghost use Rattle.std.specs.Prelude.{Contains, IfErr, IfOk, IsTrue, OnOk, [], false, length, ◌<◌, ◌^◌, ◌≡◌, ◌≤◌, map, ◌∷◌};
+ghost use Rattle.std.specs.Prelude.{Contains, IfErr, IfOk, IsTrue, OnOk, [], false, ◌<◌, ◌≡◌, ◌≤◌, map, ◌∷◌};
 
 use crate::lists::row_list;
 use pm_client::{ClientFail, matrix_of, put_value, whole_of};
-use pm_elim::{ElimFail, rank, rank_by};
+use pm_elim::rank_by;
 use pm_family::{Family, FamilyClient};
 use pm_object::{Draft, View};
 use pm_standard::StandardClient;
@@ -112,23 +109,6 @@ impl Family for DimFamily {
     }
 }
 
-// The rank of rows, by wide numbers where those of the range do not suffice and the word is given.
-fn rank_in(alloc: Global, rows: &[Ints], cols: usize, wide: bool) -> Result<usize, ElimFail>
-    requires columns { HasCols cols rows.now }
-    requires few_rows { length rows.now < 2 ^ 30 }
-    requires few_columns { cols < 2 ^ 30 }
-    ensures rank { IfOk result (λ k. IsRank rows.now k) }
-    ensures never_wide { wide ≡ false → OnOk result (NoEvidence cols rows.now list.Rows) }
-    ensures shown { IfErr result (λ f. IfWide f (λ e. IsEvidence cols rows.now e)) }
-    ensures list { IfErr result (λ f. IfWide f (λ e. e.list ≡ list.Rows)) }
-{
-    if wide {
-        rank_by(alloc, rows, cols, true)
-    } else {
-        rank(alloc, rows, cols)
-    }
-}
-
 // The rank of the row list of two parts, to which nothing is added; with the word, by wide numbers where those of the
 // range do not suffice. It fails for want of memory, or where the elimination of the list leaves the range.
 fn rank_of_list(
@@ -151,7 +131,7 @@ fn rank_of_list(
     ensures fails { IfErr result (λ e. FailsRightly view.now e × EliminatesRows e) }
 {
     let rows = row_list(alloc, view, first, second)?;
-    let rank = rank_in(alloc, &rows, view.cols(), wide)?;
+    let rank = rank_by(alloc, &rows, view.cols(), wide)?;
     Ok(rank)
 }
 

@@ -8,8 +8,6 @@ ghost use Rattle.pm_clients_geom.specs.Matrices.{MayBeLines};
 ghost use Rattle.pm_clients_geom.specs.Pairs.{LacksPair};
 ghost use Rattle.pm_clients_geom.specs.Ranks.{FindsNullSpace};
 ghost use Rattle.pm_clients_geom.specs.Stays.{RowsStay};
-ghost use Rattle.pm_elim.specs.Evidence.{IfWide, IsEvidence, NoEvidence};
-ghost use Rattle.pm_elim.specs.NullSpaces.{IsNullBasis};
 ghost use Rattle.pm_clients_geom.specs.declared.rows.RowsWork.TheVariants as work;
 ghost use Rattle.pm_elim.specs.declared.evidence.ElimList.TheVariants as list;
 ghost use Rattle.pm_standard.specs.Table.{standard_kind};
@@ -17,12 +15,11 @@ ghost use Rattle.pm_props.specs.declared.property.PropId.TheVariants as property
 ghost use Rattle.pm_standard.specs.declared.standard.StandardClient.TheVariants as client;
 ghost use Rattle.pm_props.specs.Properties.{has_program, of_fans, row};
 ghost use Rattle.pm_props.specs.Sets.{has};
-ghost use Rattle.pm_vector.specs.Rows.{HasCols};
-ghost use Rattle.std.specs.Prelude.{All, false, IfErr, IfOk, IsTrue, List, OnOk, [], length, map, ℕ, ◌<◌, ◌^◌, ◌≡◌, ◌↔◌, ◌∷◌, ◌⊎◌};
+ghost use Rattle.std.specs.Prelude.{All, false, IfErr, IfOk, IsTrue, OnOk, [], length, map, ◌<◌, ◌≡◌, ◌↔◌, ◌∷◌};
 
 use crate::lists::row_list;
 use pm_client::{ClientFail, matrix_of, put_value};
-use pm_elim::{ElimFail, null_space, null_space_by};
+use pm_elim::null_space_by;
 use pm_family::{Family, FamilyClient};
 use pm_matrix::Matrix;
 use pm_object::{Draft, View};
@@ -149,24 +146,6 @@ fn inequalities_from_facets(alloc: Global, view: &View, draft: &mut Draft) -> Re
     Ok(())
 }
 
-// The null space of rows, by wide numbers where those of the range do not suffice and the word is given.
-fn null_in(alloc: Global, rows: &[Ints], cols: usize, wide: bool) -> Result<Vec<Ints>, ElimFail>
-    requires columns { HasCols cols rows.now }
-    requires few_rows { length rows.now < 2 ^ 30 }
-    requires few_columns { cols < 2 ^ 30 }
-    ensures null { IfOk result (λ v. (P : List ℕ) × IsNullBasis cols rows.now v.items P) }
-    ensures never_wide { wide ≡ false → OnOk result (NoEvidence cols rows.now list.Rows) }
-    ensures never_wide_extended { wide ≡ false → OnOk result (NoEvidence cols rows.now list.Extended) }
-    ensures shown { IfErr result (λ f. IfWide f (λ e. IsEvidence cols rows.now e)) }
-    ensures list { IfErr result (λ f. IfWide f (λ e. (e.list ≡ list.Rows) ⊎ (e.list ≡ list.Extended))) }
-{
-    if wide {
-        null_space_by(alloc, rows, cols, true)
-    } else {
-        null_space(alloc, rows, cols)
-    }
-}
-
 // LINEALITY_SPACE: the null space of the rows of AFFINE_HULL and FACETS; with the word, by wide numbers where those of
 // the range do not suffice.
 fn lineality_from_facets(
@@ -188,7 +167,7 @@ fn lineality_from_facets(
     ensures fails { IfErr result (λ e. FailsRightly view.now e × EliminatesExtended e) }
 {
     let rows = row_list(alloc, view, PropId::AffineHull, PropId::Facets)?;
-    let null = null_in(alloc, &rows, view.cols(), wide)?;
+    let null = null_space_by(alloc, &rows, view.cols(), wide)?;
     let lines = if may_be_lines(view.of(), &null) {
         null
     } else {
@@ -220,7 +199,7 @@ fn hull_from_vertices(
     ensures fails { IfErr result (λ e. FailsRightly view.now e × EliminatesExtended e) }
 {
     let rows = row_list(alloc, view, PropId::LinealitySpace, PropId::Vertices)?;
-    let null = null_in(alloc, &rows, view.cols(), wide)?;
+    let null = null_space_by(alloc, &rows, view.cols(), wide)?;
     let hull = matrix_over_one(alloc, &null, view.cols())?;
     put_value(draft, PropId::AffineHull, Value::Mat(hull))?;
     Ok(())

@@ -66,15 +66,15 @@ module _ (v : ViewSeen) where
 
 -- ---- what each client shows
 module _ (v : ViewSeen) (sense : Sense) (c : List Ratio) (reads : ReadsObjective v c) (f : LpFail) where
-  pub rays_fail : v.kind ≡ standard_kind (at_rays sense) → (V L : List Row) → AreRowsOf v Vertices V → AreRowsOf v LinealitySpace L → IfWide f (ShowsValue sense c V L) → FailsBy (IsWideAtRays v) (fail_of_program f)
-  rays_fail kind V L rays lines h =
+  pub rays_fail : (wide : Bool) → v.kind ≡ standard_kind (at_rays sense wide) → (V L : List Row) → AreRowsOf v Vertices V → AreRowsOf v LinealitySpace L → IfWide f (ShowsValue sense c V L) → FailsBy (IsWideAtRays v) (fail_of_program f)
+  rays_fail wide kind V L rays lines h =
       fails_by (ShowsValue sense c V L) (IsWideAtRays v)
-      (λ e s. record { sense = sense; named = rays_named v.kind sense kind; lines = L; rays = V; reads_lines = lines; reads_rays = rays; objective = c; reads_objective = reads; shown = s }) f h
+      (λ e s. record { sense = sense; named = rays_named v.kind sense wide kind; lines = L; rays = V; reads_lines = lines; reads_rays = rays; objective = c; reads_objective = reads; shown = s }) f h
 
-  pub face_fails : v.kind ≡ standard_kind (at_face sense) → (V : List Row) → AreRowsOf v Vertices V → (x : Ratio) → fact_of (optimum sense) v.facts ≡ Some (extended (finite x)) → IfWide f (ShowsFace sense c (ratio_in sense x) V) → FailsBy (IsWideFace v) (fail_of_program f)
-  face_fails kind V rays x value h =
+  pub face_fails : (wide : Bool) → v.kind ≡ standard_kind (at_face sense wide) → (V : List Row) → AreRowsOf v Vertices V → (x : Ratio) → fact_of (optimum sense) v.facts ≡ Some (extended (finite x)) → IfWide f (ShowsFace sense c (ratio_in sense x) V) → FailsBy (IsWideFace v) (fail_of_program f)
+  face_fails wide kind V rays x value h =
       fails_by (ShowsFace sense c (ratio_in sense x) V) (IsWideFace v)
-      (λ e s. record { sense = sense; named = face_named v.kind sense kind; rays = V; reads_rays = rays; objective = c; reads_objective = reads; value = x; reads_value = value; shown = s }) f h
+      (λ e s. record { sense = sense; named = face_named v.kind sense wide kind; rays = V; reads_rays = rays; objective = c; reads_objective = reads; value = x; reads_value = value; shown = s }) f h
 
   pub rows_fail : (wide : Bool) → v.kind ≡ standard_kind (over_rows sense wide) → v.of ≡ Polytope → (E A : List Row) → AreRowsOf v Equations E → AreRowsOf v Inequalities A → IfWide f (ShowsProgram (half_spaces Polytope v.cols A) E (objective_in sense c)) → FailsBy (IsWideOptimum v) (fail_of_program f)
   rows_fail wide kind polytope E A equations inequalities h =

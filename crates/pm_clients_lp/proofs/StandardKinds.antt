@@ -28,27 +28,33 @@ abbrev pub face_sources : Sense → List PropId
 face_sources sense = Vertices ∷ optimum sense ∷ LinearObjective ∷ []
 
 -- ---- at rays
-module _ (k : Kind) (sense : Sense) (is : k ≡ standard_kind (at_rays sense)) where
+module _ (k : Kind) (sense : Sense) (wide : Bool) (is : k ≡ standard_kind (at_rays sense wide)) where
   pub rays_read : k.sources ≡ set_of ray_sources
-  rays_read = ap (λ z. z.sources) is ∙ by sense
+  rays_read = ap (λ z. z.sources) is ∙ by sense wide
     where
-      by : (s : Sense) → (standard_kind (at_rays s)).sources ≡ set_of ray_sources
-      by Maximal = refl
-      by Minimal = refl
+      by : (s : Sense) (w : Bool) → (standard_kind (at_rays s w)).sources ≡ set_of ray_sources
+      by Maximal false = refl
+      by Minimal false = refl
+      by Maximal true = refl
+      by Minimal true = refl
 
   pub rays_found : k.targets ≡ set_of (optimum sense ∷ [])
-  rays_found = ap (λ z. z.targets) is ∙ by sense
+  rays_found = ap (λ z. z.targets) is ∙ by sense wide
     where
-      by : (s : Sense) → (standard_kind (at_rays s)).targets ≡ set_of (optimum s ∷ [])
-      by Maximal = refl
-      by Minimal = refl
+      by : (s : Sense) (w : Bool) → (standard_kind (at_rays s w)).targets ≡ set_of (optimum s ∷ [])
+      by Maximal false = refl
+      by Minimal false = refl
+      by Maximal true = refl
+      by Minimal true = refl
 
   pub rays_named : has_way k.name (way.at_rays (sought sense)) ≡ true
-  rays_named = subst (λ (z : Kind). has_way z.name (way.at_rays (sought sense)) ≡ true) (sym is) (by sense)
+  rays_named = subst (λ (z : Kind). has_way z.name (way.at_rays (sought sense)) ≡ true) (sym is) (by sense wide)
     where
-      by : (s : Sense) → has_way (standard_kind (at_rays s)).name (way.at_rays (sought s)) ≡ true
-      by Maximal = refl
-      by Minimal = refl
+      by : (s : Sense) (w : Bool) → has_way (standard_kind (at_rays s w)).name (way.at_rays (sought s)) ≡ true
+      by Maximal false = refl
+      by Minimal false = refl
+      by Maximal true = refl
+      by Minimal true = refl
 
 -- ---- over INEQUALITIES
 module _ (k : Kind) (sense : Sense) (wide : Bool) (is : k ≡ standard_kind (over_rows sense wide)) where
@@ -118,27 +124,33 @@ module _ (k : Kind) (sense : Sense) (wide : Bool) (is : k ≡ standard_kind (ove
       by Minimal true = refl
 
 -- ---- the rays at an optimum
-module _ (k : Kind) (sense : Sense) (is : k ≡ standard_kind (at_face sense)) where
+module _ (k : Kind) (sense : Sense) (wide : Bool) (is : k ≡ standard_kind (at_face sense wide)) where
   pub face_read : k.sources ≡ set_of (face_sources sense)
-  face_read = ap (λ z. z.sources) is ∙ by sense
+  face_read = ap (λ z. z.sources) is ∙ by sense wide
     where
-      by : (s : Sense) → (standard_kind (at_face s)).sources ≡ set_of (face_sources s)
-      by Maximal = refl
-      by Minimal = refl
+      by : (s : Sense) (w : Bool) → (standard_kind (at_face s w)).sources ≡ set_of (face_sources s)
+      by Maximal false = refl
+      by Minimal false = refl
+      by Maximal true = refl
+      by Minimal true = refl
 
   pub face_found : k.targets ≡ set_of (face sense ∷ [])
-  face_found = ap (λ z. z.targets) is ∙ by sense
+  face_found = ap (λ z. z.targets) is ∙ by sense wide
     where
-      by : (s : Sense) → (standard_kind (at_face s)).targets ≡ set_of (face s ∷ [])
-      by Maximal = refl
-      by Minimal = refl
+      by : (s : Sense) (w : Bool) → (standard_kind (at_face s w)).targets ≡ set_of (face s ∷ [])
+      by Maximal false = refl
+      by Minimal false = refl
+      by Maximal true = refl
+      by Minimal true = refl
 
   pub face_named : has_way k.name (way.at_face (sought sense)) ≡ true
-  face_named = subst (λ (z : Kind). has_way z.name (way.at_face (sought sense)) ≡ true) (sym is) (by sense)
+  face_named = subst (λ (z : Kind). has_way z.name (way.at_face (sought sense)) ≡ true) (sym is) (by sense wide)
     where
-      by : (s : Sense) → has_way (standard_kind (at_face s)).name (way.at_face (sought s)) ≡ true
-      by Maximal = refl
-      by Minimal = refl
+      by : (s : Sense) (w : Bool) → has_way (standard_kind (at_face s w)).name (way.at_face (sought s)) ≡ true
+      by Maximal false = refl
+      by Minimal false = refl
+      by Maximal true = refl
+      by Minimal true = refl
 
 -- ---- what is listed is had
 pub has_optimum : (set : ℕ) (sense : Sense) (more : List PropId) → set ≡ set_of (optimum sense ∷ more) → has set (optimum sense) ≡ true

@@ -28,14 +28,19 @@ over_rows Minimal false = client.LpMinRows
 over_rows Maximal true = client.LpMaxRowsWide
 over_rows Minimal true = client.LpMinRowsWide
 
--- ---- in each sense: the client of the optimum at VERTICES, and that of the rays at the optimum
-abbrev pub at_rays : Sense → StandardClient
-at_rays Maximal = client.LpMaxV
-at_rays Minimal = client.LpMinV
+-- ---- in each sense, and by wide numbers or not: the client of the optimum at VERTICES, and that of the rays at the
+-- optimum
+abbrev pub at_rays : Sense → Bool → StandardClient
+at_rays Maximal false = client.LpMaxV
+at_rays Minimal false = client.LpMinV
+at_rays Maximal true = client.LpMaxVWide
+at_rays Minimal true = client.LpMinVWide
 
-abbrev pub at_face : Sense → StandardClient
-at_face Maximal = client.LpMaxFace
-at_face Minimal = client.LpMinFace
+abbrev pub at_face : Sense → Bool → StandardClient
+at_face Maximal false = client.LpMaxFace
+at_face Minimal false = client.LpMinFace
+at_face Maximal true = client.LpMaxFaceWide
+at_face Minimal true = client.LpMinFaceWide
 
 -- the rays at the optimum, and the dual, as properties
 abbrev pub face : Sense → PropId
@@ -50,10 +55,12 @@ dual Minimal = MinimalDual
 abbrev pub linear_client : LpWork → StandardClient
 linear_client (work.OverFacets sense) = over_facets sense false
 linear_client (work.OverRows sense) = over_rows sense false
-linear_client (work.AtRays sense) = at_rays sense
-linear_client (work.AtFace sense) = at_face sense
+linear_client (work.AtRays sense) = at_rays sense false
+linear_client (work.AtFace sense) = at_face sense false
 linear_client (work.OverFacetsWide sense) = over_facets sense true
 linear_client (work.OverRowsWide sense) = over_rows sense true
+linear_client (work.AtRaysWide sense) = at_rays sense true
+linear_client (work.AtFaceWide sense) = at_face sense true
 
 -- for want of memory, or with such evidence
 abbrev pub FailsBy : (Evidence → Type 0) → ClientFail → Type 0
@@ -72,3 +79,5 @@ LinearFails (work.AtRays sense) v e = FailsBy (IsWideAtRays v) e
 LinearFails (work.AtFace sense) v e = FailsBy (IsWideFace v) e
 LinearFails (work.OverFacetsWide sense) v e = FailsBy (IsWideWithDual v) e
 LinearFails (work.OverRowsWide sense) v e = FailsBy (IsWideOptimum v) e
+LinearFails (work.AtRaysWide sense) v e = FailsBy (IsWideAtRays v) e
+LinearFails (work.AtFaceWide sense) v e = FailsBy (IsWideFace v) e

@@ -26,12 +26,17 @@ pub record FailsAreRead : Type 0 where
   -- memory may be wanting to each
   pub memory : LinearFails (work.OverFacets Minimal) view Memory
   pub memory_for_rays : LinearFails (work.AtRays Maximal) view Memory
+  pub memory_for_wide_rays : LinearFails (work.AtRaysWide Minimal) view Memory
   -- a row of the dual is evidence where one is found
   pub dual : (e : Evidence) → IsWideDual view e → LinearFails (work.OverFacets Maximal) view (Failed e)
   -- a product is no evidence over INEQUALITIES, and a pivot none at VERTICES
   pub product : ¬ (LinearFails (work.OverRows Maximal) view (Failed (E4 (pos 1 ∷ []) (pos 1 ∷ []))))
   pub pivot : ¬ (LinearFails (work.AtRays Maximal) view (Failed (E3 [] 0 0 0 0)))
   pub face_pivot : ¬ (LinearFails (work.AtFace Minimal) view (Failed (E3 [] 0 0 0 0)))
+  -- nor are they by wide numbers
+  pub wide_product : ¬ (LinearFails (work.OverRowsWide Maximal) view (Failed (E4 (pos 1 ∷ []) (pos 1 ∷ []))))
+  pub wide_pivot : ¬ (LinearFails (work.AtRaysWide Maximal) view (Failed (E3 [] 0 0 0 0)))
+  pub wide_face_pivot : ¬ (LinearFails (work.AtFaceWide Minimal) view (Failed (E3 [] 0 0 0 0)))
   -- rows are read of VERTICES, and none of an optimum
   pub rows : is_of_rows Vertices ≡ true
   pub no_rows : is_of_rows MaximalValue ≡ false

@@ -10,24 +10,25 @@ ghost use Rattle.pm_types.specs.Values.{extended};
 ghost use Rattle.pm_types.specs.Views.{extended_of};
 ghost use Rattle.std.specs.Prelude.{IfErr, IfOk, IsTrue, OnOk, Some, [], ◌≡◌};
 
+use crate::optima::places_of_value_by;
 use crate::properties::{face_in, value_in};
 use crate::reading::{objective_of, rows_of};
 use pm_client::{ClientFail, number_of, put_value};
 use pm_object::{Draft, View};
-use pm_optima::places_of_value;
 use pm_simplex::Sense;
 use pm_types::{Counts, Number, ObjectType, PropId, Value};
 use std::alloc::Global;
 
 /// The places of the rows of VERTICES at which the objective has its optimum, which is handed in; none where that is
-/// an infinity.
+/// an infinity. By wide numbers too, where these are asked for.
 fn places_at(
     sense: Sense,
     alloc: Global,
     view: &View,
     number: Number,
+    wide: bool,
 ) -> Result<Vec<i64>, ClientFail>
-    requires kind { view.now.kind ≡ standard_kind (at_face sense) }
+    requires kind { view.now.kind ≡ standard_kind (at_face sense wide) }
     requires value { fact_of (optimum sense) view.now.facts
         ≡ Some (extended (extended_of number)) }
     ensures places { IfOk result (λ ks. ArePlacesAt view.now sense
@@ -40,21 +41,22 @@ fn places_at(
     let objective = objective_of(view);
     match number {
         Number::Finite(value) => {
-            let places = places_of_value(alloc, sense, objective, value, &rays)?;
+            let places = places_of_value_by(alloc, sense, objective, value, &rays, wide)?;
             Ok(places)
         }
         _ => Ok(Vec::new(alloc)),
     }
 }
 
-/// The rays at the optimum, which was found.
+/// The rays at the optimum, which was found; by wide numbers too, where these are asked for.
 pub(crate) fn face_at_value(
     sense: Sense,
     alloc: Global,
     view: &View,
     draft: &mut Draft,
+    wide: bool,
 ) -> Result<(), ClientFail>
-    requires kind { view.now.kind ≡ standard_kind (at_face sense) }
+    requires kind { view.now.kind ≡ standard_kind (at_face sense wide) }
     requires empty { draft.old ≡ record { kind = view.now.kind; values = [] } }
     ensures draft { draft.new.kind ≡ draft.old.kind }
     ensures sound { OnOk result (IsSound view.now draft.new) }
@@ -63,7 +65,7 @@ pub(crate) fn face_at_value(
 {
     prove!(view.of() == ObjectType::Polytope);
     let number = number_of(view, value_in(sense));
-    let places = places_at(sense, alloc, view, number)?;
+    let places = places_at(sense, alloc, view, number, wide)?;
     put_value(
         draft,
         face_in(sense),

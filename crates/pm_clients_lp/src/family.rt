@@ -28,6 +28,10 @@ pub enum LpWork {
     OverFacetsWide(Sense),
     /// The optimum over INEQUALITIES, by wide numbers.
     OverRowsWide(Sense),
+    /// The optimum at VERTICES, by wide numbers.
+    AtRaysWide(Sense),
+    /// The rays at the optimum, by wide numbers.
+    AtFaceWide(Sense),
 }
 
 impl LpWork {
@@ -52,15 +56,20 @@ impl LpWork {
     }
 
     /// Those of the clients that answer by wide numbers, in the order of their rules.
-    pub fn wide() -> [LpWork; 4]
+    pub fn wide() -> [LpWork; 8]
         ensures { map linear_client result ≡ client.LpMaxWide ∷ client.LpMinWide ∷ client.LpMaxRowsWide
-            ∷ client.LpMinRowsWide ∷ [] }
+            ∷ client.LpMinRowsWide
+            ∷ client.LpMaxVWide ∷ client.LpMinVWide ∷ client.LpMaxFaceWide ∷ client.LpMinFaceWide ∷ [] }
     {
         [
             Self::OverFacetsWide(Sense::Maximal),
             Self::OverFacetsWide(Sense::Minimal),
             Self::OverRowsWide(Sense::Maximal),
             Self::OverRowsWide(Sense::Minimal),
+            Self::AtRaysWide(Sense::Maximal),
+            Self::AtRaysWide(Sense::Minimal),
+            Self::AtFaceWide(Sense::Maximal),
+            Self::AtFaceWide(Sense::Minimal),
         ]
     }
 }
@@ -71,8 +80,9 @@ pub struct LpFamily;
 
 /// A client of linear programs. It fails for want of memory; the optima over half-spaces where a pivot of their
 /// program leaves the range, and those with a dual where a row of the dual does; the others where a product of the
-/// objective with a ray or line does, or the optimum, or the row that vanishes at it. A wide one searches by wide
-/// numbers where a pivot leaves the range, and where these do not suffice it fails as the standard one.
+/// objective with a ray or line does, or the optimum, or the row that vanishes at it. A wide one goes on by wide
+/// numbers where a pivot, such a product, the optimum or that row leaves the range, and where these do not suffice it
+/// fails as the standard one.
 pub type LpClient = FamilyClient<LpFamily>;
 
 impl Family for LpFamily {
@@ -100,6 +110,10 @@ impl Family for LpFamily {
             LpWork::OverFacetsWide(Sense::Minimal) => StandardClient::LpMinWide,
             LpWork::OverRowsWide(Sense::Maximal) => StandardClient::LpMaxRowsWide,
             LpWork::OverRowsWide(Sense::Minimal) => StandardClient::LpMinRowsWide,
+            LpWork::AtRaysWide(Sense::Maximal) => StandardClient::LpMaxVWide,
+            LpWork::AtRaysWide(Sense::Minimal) => StandardClient::LpMinVWide,
+            LpWork::AtFaceWide(Sense::Maximal) => StandardClient::LpMaxFaceWide,
+            LpWork::AtFaceWide(Sense::Minimal) => StandardClient::LpMinFaceWide,
         }
     }
 
@@ -112,10 +126,12 @@ impl Family for LpFamily {
         match work {
             LpWork::OverFacets(sense) => value_with_dual(sense, alloc, view, draft, false),
             LpWork::OverRows(sense) => value_from_rows(sense, alloc, view, draft, false),
-            LpWork::AtRays(sense) => value_from_rays(sense, alloc, view, draft),
-            LpWork::AtFace(sense) => face_at_value(sense, alloc, view, draft),
+            LpWork::AtRays(sense) => value_from_rays(sense, alloc, view, draft, false),
+            LpWork::AtFace(sense) => face_at_value(sense, alloc, view, draft, false),
             LpWork::OverFacetsWide(sense) => value_with_dual(sense, alloc, view, draft, true),
             LpWork::OverRowsWide(sense) => value_from_rows(sense, alloc, view, draft, true),
+            LpWork::AtRaysWide(sense) => value_from_rays(sense, alloc, view, draft, true),
+            LpWork::AtFaceWide(sense) => face_at_value(sense, alloc, view, draft, true),
         }
     }
 }

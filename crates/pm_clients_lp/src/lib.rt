@@ -8,6 +8,7 @@ mod duals;
 mod faces;
 mod family;
 mod halves;
+mod optima;
 mod programs;
 mod properties;
 mod rays;

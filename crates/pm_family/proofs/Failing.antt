@@ -1,11 +1,10 @@
 -- What the standard clients may eliminate, by their rows.
 use Rattle.pm_vector.proofs.Lists.{Contains_among, here}
-use Rattle.pm_client.specs.Sound.{eliminated_by, row_list, cone_rows}
+use Rattle.pm_client.specs.Sound.{eliminated_by, row_list}
 use Rattle.pm_object.specs.Reading.{ViewSeen}
 use Rattle.pm_standard.specs.Table.{standard_kind}
 use Rattle.pm_props.specs.declared.kind.Kind.{Kind}
 use Rattle.pm_standard.specs.declared.standard.StandardClient.{StandardClient}
-use Rattle.pm_standard.specs.declared.standard.StandardClient.TheVariants as client
 use Rattle.std.proofs.Common.{subst, sym}
 use Rattle.std.specs.List.{Contains}
 use Rattle.std.specs.Prelude.{[], ◌∷◌, ◌≡◌}
@@ -18,6 +17,3 @@ takes_alone v alone = subst (λ ls. Contains ls row_list) (sym alone) (Contains_
 -- a standard client whose name says so
 pub takes_row_list : (v : ViewSeen) (c : StandardClient) → v.kind ≡ standard_kind c → eliminated_by (standard_kind c).name ≡ row_list ∷ [] → TakesRowList v
 takes_row_list v c kind alone = subst (λ (k : Kind). Contains (eliminated_by k.name) row_list) (sym kind) (subst (λ ls. Contains ls row_list) (sym alone) (Contains_among (here {xs = []})))
-
-pub takes_cones : (v : ViewSeen) → v.kind ≡ standard_kind client.FanDims → Contains (eliminated_by v.kind.name) cone_rows
-takes_cones v kind = subst (λ (k : Kind). Contains (eliminated_by k.name) cone_rows) (sym kind) (Contains_among (here {xs = []}))

@@ -5,9 +5,9 @@ ghost use Rattle.pm_elim.specs.Evidence.{IfWide};
 ghost use Rattle.pm_elim.specs.declared.evidence.ElimList.TheVariants as list;
 ghost use Rattle.pm_fan.specs.Dimensions.{AreDimensions, ArePlaces, IsConeEvidence, NoConeEvidence, cone_rows};
 ghost use Rattle.std.specs.List.{All};
-ghost use Rattle.std.specs.Prelude.{IfErr, IfOk, OnOk, length, ◌<◌, ◌^◌, ◌≡◌};
+ghost use Rattle.std.specs.Prelude.{IfErr, IfOk, OnOk, false, length, ◌<◌, ◌^◌, ◌≡◌};
 
-use pm_elim::{ElimFail, copies, rank};
+use pm_elim::{ElimFail, copies, rank_by};
 use pm_types::Sets;
 use pm_vector::Ints;
 use std::alloc::{AllocError, Global};
@@ -32,27 +32,28 @@ fn cone_rows(
 /// The dimensions of cones that are given by their rays, as sets of places, over one lineality: for each set the rank
 /// of the lineality with these rays. The rows have `cols` entries.
 /// `Wide` exactly where, for some set, a step of the elimination of these rows leaves the range; the evidence is on
-/// them.
+/// them. With `wide` such an elimination is worked by wide numbers, and `Wide` comes only where these do not suffice.
 pub fn cone_dims(
     alloc: Global,
     rays: &[Ints],
     lineality: &[Ints],
     cones: &Sets,
     cols: usize,
+    wide: bool,
 ) -> Result<Vec<i64>, ElimFail>
     requires rays { HasCols cols rays.now }
     requires lineality { HasCols cols lineality.now }
     requires places { ArePlaces rays.now lineality.now cones.now.rows }
     requires few_columns { cols < 2 ^ 30 }
     ensures dims { IfOk result (λ d. AreDimensions rays.now lineality.now cones.now.rows d.items) }
-    ensures never_wide { OnOk result (NoConeEvidence cols rays.now lineality.now cones.now.rows) }
+    ensures never_wide { OnOk result (wide ≡ false → NoConeEvidence cols rays.now lineality.now cones.now.rows) }
     ensures wide { IfErr result (λ f. IfWide f (IsConeEvidence cols rays.now lineality.now cones.now.rows)) }
     ensures list { IfErr result (λ f. IfWide f (λ e. e.list ≡ list.Rows)) }
 {
     let mut dims = Vec::new(alloc);
     for set in cones.rows() {
         let rows = cone_rows(alloc, rays, lineality, set)?;
-        dims.push(rank(alloc, &rows, cols)? as i64)?;
+        dims.push(rank_by(alloc, &rows, cols, wide)? as i64)?;
     }
     Ok(dims)
 }

@@ -111,6 +111,7 @@ fn main(rt: HostRuntime) -> ExitCode {
     box_each!(DimClient, DimWork::wide(), alloc, clients);
     box_each!(SetsClient, SetsWork::wide(), alloc, clients);
     box_each!(LpClient, LpWork::wide(), alloc, clients);
+    box_each!(FanClient, FanWork::wide(), alloc, clients);
     box_each!(PlaceClient, PlaceWork::wide(), alloc, clients);
     box_each!(LiftClient, LiftWork::wide(), alloc, clients);
     let mut source = StdSource::new(rt.stdin());

@@ -242,6 +242,21 @@ table_row client.LpMinRowsWide =
     may_fail (optimum_over_rows least ∷ products ∷ [])
     (plain_rule (codes "lp_min_rows_wide") (MinimalValue ∷ [])
     (Inequalities ∷ Equations ∷ LinearObjective ∷ []) 26)
+table_row client.LpMaxVWide =
+    may_fail (at_rays greatest ∷ [])
+    (plain_rule (codes "lp_max_v_wide") (MaximalValue ∷ []) (Vertices ∷ LinealitySpace ∷ LinearObjective ∷ []) 7)
+table_row client.LpMinVWide =
+    may_fail (at_rays least ∷ [])
+    (plain_rule (codes "lp_min_v_wide") (MinimalValue ∷ []) (Vertices ∷ LinealitySpace ∷ LinearObjective ∷ []) 7)
+table_row client.LpMaxFaceWide =
+    may_fail (at_face greatest ∷ [])
+    (plain_rule (codes "lp_max_face_wide") (MaximalFace ∷ []) (Vertices ∷ MaximalValue ∷ LinearObjective ∷ []) 4)
+table_row client.LpMinFaceWide =
+    may_fail (at_face least ∷ [])
+    (plain_rule (codes "lp_min_face_wide") (MinimalFace ∷ []) (Vertices ∷ MinimalValue ∷ LinearObjective ∷ []) 4)
+table_row client.FanDimsWide =
+    may_fail (eliminates cone_rows ∷ []) (plain_rule (codes "fan_dims_wide") (MaximalConesDims ∷ [])
+    (Vertices ∷ LinealitySpace ∷ MaximalCones ∷ []) 5)
 table_row client.BbFacetsWide =
     may_fail by_placing (plain_rule (codes "bb_facets_wide") (Facets ∷ AffineHull ∷ [])
     (Points ∷ InputLineality ∷ []) 46)
@@ -299,6 +314,8 @@ wide_clients =
     ∷ client.FacetsFromSetsWide ∷ client.LinealityFromFacetsWide ∷ client.HullFromVerticesWide
     ∷ client.ConeDimVWide ∷ client.ConeDimPointsWide ∷ client.FeasibleLpWide ∷ client.IncidenceWide
     ∷ client.LpMaxWide ∷ client.LpMinWide ∷ client.LpMaxRowsWide ∷ client.LpMinRowsWide
+    ∷ client.LpMaxVWide ∷ client.LpMinVWide ∷ client.LpMaxFaceWide ∷ client.LpMinFaceWide
+    ∷ client.FanDimsWide
     ∷ client.BbFacetsWide ∷ client.BbFacetsVWide ∷ client.PlacingWide ∷ client.RegularCellsWide ∷ client.DelaunayWide ∷ []
 
 abbrev pub standard_kind : StandardClient → Kind

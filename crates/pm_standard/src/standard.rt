@@ -181,6 +181,16 @@ pub enum StandardClient {
     LpMaxRowsWide,
     /// MINIMAL_VALUE from INEQUALITIES, EQUATIONS, LINEAR_OBJECTIVE, by wide numbers.
     LpMinRowsWide,
+    /// MAXIMAL_VALUE from VERTICES, LINEALITY_SPACE, LINEAR_OBJECTIVE, by wide numbers.
+    LpMaxVWide,
+    /// MINIMAL_VALUE from VERTICES, LINEALITY_SPACE, LINEAR_OBJECTIVE, by wide numbers.
+    LpMinVWide,
+    /// MAXIMAL_FACE from VERTICES, MAXIMAL_VALUE, LINEAR_OBJECTIVE, by wide numbers.
+    LpMaxFaceWide,
+    /// MINIMAL_FACE from VERTICES, MINIMAL_VALUE, LINEAR_OBJECTIVE, by wide numbers.
+    LpMinFaceWide,
+    /// MAXIMAL_CONES_DIMS from VERTICES, LINEALITY_SPACE, MAXIMAL_CONES, by wide numbers.
+    FanDimsWide,
     /// FACETS and AFFINE_HULL from POINTS, INPUT_LINEALITY, by beneath-beyond and wide numbers.
     BbFacetsWide,
     /// FACETS, AFFINE_HULL and PLACING_TRIANGULATION from VERTICES, LINEALITY_SPACE, by wide numbers.
@@ -225,7 +235,7 @@ macro_rules! rule {
 }
 
 // The standard rules, in the order of the standard book, and after them the wide ones.
-static RULES: [Entry; 90] = [
+static RULES: [Entry; 95] = [
     rule!("dd_vertices": Vertices, LinealitySpace from Inequalities, Equations; 40),
     rule!("dd_facets": Facets, AffineHull from Points, InputLineality; 40),
     rule!("dd_facets_v": Facets, AffineHull from Vertices, LinealitySpace; 30),
@@ -311,6 +321,11 @@ static RULES: [Entry; 90] = [
     rule!("lp_min_wide": MinimalValue, MinimalDual from Facets, AffineHull, LinearObjective; 21),
     rule!("lp_max_rows_wide": MaximalValue from Inequalities, Equations, LinearObjective; 26),
     rule!("lp_min_rows_wide": MinimalValue from Inequalities, Equations, LinearObjective; 26),
+    rule!("lp_max_v_wide": MaximalValue from Vertices, LinealitySpace, LinearObjective; 7),
+    rule!("lp_min_v_wide": MinimalValue from Vertices, LinealitySpace, LinearObjective; 7),
+    rule!("lp_max_face_wide": MaximalFace from Vertices, MaximalValue, LinearObjective; 4),
+    rule!("lp_min_face_wide": MinimalFace from Vertices, MinimalValue, LinearObjective; 4),
+    rule!("fan_dims_wide": MaximalConesDims from Vertices, LinealitySpace, MaximalCones; 5),
     rule!("bb_facets_wide": Facets, AffineHull from Points, InputLineality; 46),
     rule!("bb_facets_v_wide": Facets, AffineHull, PlacingTriangulation from Vertices, LinealitySpace; 36),
     rule!("placing_wide": PlacingTriangulation from Vertices, LinealitySpace; 26),
@@ -393,7 +408,7 @@ impl StandardClient {
     }
 
     /// The clients that answer by wide numbers, in the order of their rules.
-    pub fn wide() -> [StandardClient; 25]
+    pub fn wide() -> [StandardClient; 30]
         ensures { result ≡ wide_clients }
     {
         [
@@ -417,6 +432,11 @@ impl StandardClient {
             Self::LpMinWide,
             Self::LpMaxRowsWide,
             Self::LpMinRowsWide,
+            Self::LpMaxVWide,
+            Self::LpMinVWide,
+            Self::LpMaxFaceWide,
+            Self::LpMinFaceWide,
+            Self::FanDimsWide,
             Self::BbFacetsWide,
             Self::BbFacetsVWide,
             Self::PlacingWide,

@@ -1,6 +1,6 @@
 //! Tests of what no reply of the program shows: cells of sites, a placing triangulation, sums and refinements, the
-//! checker of tables, a linear program by wide numbers, these numbers themselves, sources and stores in memory, and
-//! the texts of errors. It knows nothing of sessions, and nothing stands on it.
+//! checker of tables, linear programs and optima at rays by wide numbers, these numbers themselves, sources and stores
+//! in memory, and the texts of errors. It knows nothing of sessions, and nothing stands on it.
 #![tactic(auto)]
 
 #[cfg(test)]
@@ -9,6 +9,8 @@ mod cells;
 mod memory;
 #[cfg(test)]
 mod numbers;
+#[cfg(test)]
+mod optima;
 #[cfg(test)]
 mod placing;
 #[cfg(test)]

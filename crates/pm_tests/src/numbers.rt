@@ -21,12 +21,15 @@ fn wide_numbers_come_back_into_the_range(rt: HostRuntime) {
     assert!(rt; square.narrow().is_none() && square.is_positive());
     let difference = square.minus(WideInt::product(MOST, MOST - 1));
     assert!(rt; difference.expect(&rt, "a difference").narrow() == Some(MOST));
+    let most = WideInt::of(MOST);
     let mut row = [MOST, 2];
     let other = [0, 1];
-    let answer = combine_primitive(MOST, row.as_mut_slice(), MOST, other.as_slice());
+    let answer = combine_primitive(most, row.as_mut_slice(), most, other.as_slice());
     assert!(rt; answer.is_ok() && row == [MOST, 1]);
-    let answer = combine_primitive(MOST, row.as_mut_slice(), 1, other.as_slice());
+    let answer = combine_primitive(most, row.as_mut_slice(), WideInt::of(1), other.as_slice());
     assert!(rt; answer.is_err() && row == [MOST, 1]);
+    let answer = combine_primitive(square, row.as_mut_slice(), square, other.as_slice());
+    assert!(rt; answer.is_ok() && row == [1, 0]);
 }
 
 // The rows that a list is dual to; rows that are dependent; and a step that leaves the range where the first row is

@@ -2,3 +2,8 @@ mod ValueRows
 mod ColumnSums
 mod WholeQuotients
 mod CommonDuals
+mod Cones
+mod Places
+mod Slacks
+mod Senses
+mod Examples

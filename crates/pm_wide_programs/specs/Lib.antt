@@ -1,2 +1,4 @@
 pub mod Values
 pub mod CommonValues
+pub mod Slacks
+pub mod Examples

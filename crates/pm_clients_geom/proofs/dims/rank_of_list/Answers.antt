@@ -6,8 +6,8 @@ use Rattle.pm_elim.specs.declared.evidence.ElimList.TheVariants as list
 use Rattle.pm_clients_geom.proofs.FoundDims.{rank_at_most}
 use Rattle.pm_clients_geom.proofs.dims.rank_of_list.Goals as goal
 
-pub rank_in-requires-clause-columns : goal.rank_in-requires-clause-columns
-rank_in-requires-clause-columns c = rw (c.deref.ensures.value, c.cols.ensures.value) c.in_ok-rows.ensures.cols
+pub rank_by-requires-clause-columns : goal.rank_by-requires-clause-columns
+rank_by-requires-clause-columns c = rw (c.deref.ensures.value, c.cols.ensures.value) c.in_ok-rows.ensures.cols
 
 pub returns-clause-rank : goal.returns-clause-rank
 returns-clause-rank c = record {
@@ -36,7 +36,7 @@ pub returns-in_err-rank-clause-failed : goal.returns-in_err-rank-clause-failed
 returns-in_err-rank-clause-failed c =
     let w = err_from_is_err_and c.from_residual-in_err-rank.result c.from_residual-in_err-rank.ensures.1 in
     rw w.1 (subst (FailsRightly c.args.view.now) (sym w.2)
-    (fails_by_list c.args.view.now c.in_ok-rows.rows.items c.in_err-rank.field-0.0 c.requires.eliminates (record { first = c.args.first; second = c.args.second; parts = c.requires.parts; list = c.in_ok-rows.ensures.listed }) (rw (← c.deref.ensures.value, ← c.cols.ensures.value) c.in_err-rank.ensures.shown)))
+    (fails_by_list c.args.view.now c.in_ok-rows.rows.items c.in_err-rank.field-0.0 c.requires.eliminates (record { first = c.args.first; second = c.args.second; parts = c.requires.parts; list = c.in_ok-rows.ensures.listed }) (rw (← c.deref.ensures.value, ← c.cols.ensures.value) c.in_err-rank.ensures.wide)))
 
 pub returns-clause-fails : goal.returns-clause-fails
 returns-clause-fails c = tt
@@ -45,6 +45,6 @@ pub returns-in_err-rank-clause-fails : goal.returns-in_err-rank-clause-fails
 returns-in_err-rank-clause-fails c =
     let w = err_from_is_err_and c.from_residual-in_err-rank.result c.from_residual-in_err-rank.ensures.1 in
     rw w.1 (subst (λ e. FailsRightly c.args.view.now e × EliminatesRows e) (sym w.2) (
-      fails_by_list c.args.view.now c.in_ok-rows.rows.items c.in_err-rank.field-0.0 c.requires.eliminates (record { first = c.args.first; second = c.args.second; parts = c.requires.parts; list = c.in_ok-rows.ensures.listed }) (rw (← c.deref.ensures.value, ← c.cols.ensures.value) c.in_err-rank.ensures.shown),
+      fails_by_list c.args.view.now c.in_ok-rows.rows.items c.in_err-rank.field-0.0 c.requires.eliminates (record { first = c.args.first; second = c.args.second; parts = c.requires.parts; list = c.in_ok-rows.ensures.listed }) (rw (← c.deref.ensures.value, ← c.cols.ensures.value) c.in_err-rank.ensures.wide),
       eliminates_in (λ l. l ≡ list.Rows) c.in_err-rank.field-0.0 c.in_err-rank.ensures.list,
     ))

@@ -23,8 +23,8 @@ row_list-requires-clause-first c = has_listed _ sources LinealitySpace c.require
 pub row_list-requires-clause-second : goal.row_list-requires-clause-second
 row_list-requires-clause-second c = has_listed _ sources Vertices c.requires.kind.sources
 
-pub null_in-requires-clause-columns : goal.null_in-requires-clause-columns
-null_in-requires-clause-columns c = rw (c.deref.ensures.value, c.cols.ensures.value) c.in_ok-rows.ensures.cols
+pub null_space_by-requires-clause-columns : goal.null_space_by-requires-clause-columns
+null_space_by-requires-clause-columns c = rw (c.deref.ensures.value, c.cols.ensures.value) c.in_ok-rows.ensures.cols
 
 pub matrix_over_one-requires : goal.matrix_over_one-requires
 matrix_over_one-requires c = rw (c.deref-2.ensures.value, c.cols-2.ensures.value, ← c.cols.ensures.value) c.in_ok-null.ensures.null.1.echelon.cols
@@ -49,12 +49,12 @@ pub returns-in_err-null-clause-failed : goal.returns-in_err-null-clause-failed
 returns-in_err-null-clause-failed c =
     let w = err_from_is_err_and c.from_residual-in_err-null.result c.from_residual-in_err-null.ensures.1 in
     rw w.1 (subst (FailsRightly c.args.view.now) (sym w.2)
-    (fails_by_list c.args.view.now c.in_ok-rows.rows.items c.in_err-null.field-0.0 (takes_alone c.args.view.now c.requires.kind.lists) (record { first = LinealitySpace; second = Vertices; parts = refl; list = c.in_ok-rows.ensures.listed }) (rw (← c.deref.ensures.value, ← c.cols.ensures.value) c.in_err-null.ensures.shown)))
+    (fails_by_list c.args.view.now c.in_ok-rows.rows.items c.in_err-null.field-0.0 (takes_alone c.args.view.now c.requires.kind.lists) (record { first = LinealitySpace; second = Vertices; parts = refl; list = c.in_ok-rows.ensures.listed }) (rw (← c.deref.ensures.value, ← c.cols.ensures.value) c.in_err-null.ensures.wide)))
 
 pub returns-in_err-null-clause-fails : goal.returns-in_err-null-clause-fails
 returns-in_err-null-clause-fails c =
     let w = err_from_is_err_and c.from_residual-in_err-null.result c.from_residual-in_err-null.ensures.1 in
     rw w.1 (subst (λ e. FailsRightly c.args.view.now e × EliminatesExtended e) (sym w.2) (
-      fails_by_list c.args.view.now c.in_ok-rows.rows.items c.in_err-null.field-0.0 (takes_alone c.args.view.now c.requires.kind.lists) (record { first = LinealitySpace; second = Vertices; parts = refl; list = c.in_ok-rows.ensures.listed }) (rw (← c.deref.ensures.value, ← c.cols.ensures.value) c.in_err-null.ensures.shown),
+      fails_by_list c.args.view.now c.in_ok-rows.rows.items c.in_err-null.field-0.0 (takes_alone c.args.view.now c.requires.kind.lists) (record { first = LinealitySpace; second = Vertices; parts = refl; list = c.in_ok-rows.ensures.listed }) (rw (← c.deref.ensures.value, ← c.cols.ensures.value) c.in_err-null.ensures.wide),
       eliminates_in (λ l. (l ≡ elimination_list.Rows) ⊎ (l ≡ elimination_list.Extended)) c.in_err-null.field-0.0 c.in_err-null.ensures.list,
     ))

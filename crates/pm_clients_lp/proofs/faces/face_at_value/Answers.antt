@@ -10,16 +10,16 @@ pub prove-unreachable-requires : goal.prove-unreachable-requires
 prove-unreachable-requires c =
     let v = c.args.view.now in
     let other : ¬ (c.of.result ≡ Polytope) = search rules in
-    other (c.of.ensures.value ∙ program_view v c.of.ensures.view (has_objective _ c.args.sense (face_read v.kind c.args.sense c.requires.kind)))
+    other (c.of.ensures.value ∙ program_view v c.of.ensures.view (has_objective _ c.args.sense (face_read v.kind c.args.sense c.args.wide c.requires.kind)))
 
 pub number_of-number-requires-clause-source : goal.number_of-number-requires-clause-source
-number_of-number-requires-clause-source c = rw c.value_in.ensures (has_value _ c.args.sense (face_read c.args.view.now.kind c.args.sense c.requires.kind))
+number_of-number-requires-clause-source c = rw c.value_in.ensures (has_value _ c.args.sense (face_read c.args.view.now.kind c.args.sense c.args.wide c.requires.kind))
 
 pub put_value-requires-clause-target : goal.put_value-requires-clause-target
-put_value-requires-clause-target c = rw c.face_in.ensures (has_face _ c.args.sense (ap (λ d. d.kind.targets) c.requires.empty ∙ face_found c.args.view.now.kind c.args.sense c.requires.kind))
+put_value-requires-clause-target c = rw c.face_in.ensures (has_face _ c.args.sense (ap (λ d. d.kind.targets) c.requires.empty ∙ face_found c.args.view.now.kind c.args.sense c.args.wide c.requires.kind))
 
 pub returns-clause-sound : goal.returns-clause-sound
 returns-clause-sound c =
     let v = c.args.view.now in
     places_sound v c.of.ensures.view c.args.sense (extended_of c.number_of-number.result) (rw c.value_in.ensures at c.number_of-number.ensures.value) c.in_ok-places.places.items c.in_ok-places.ensures.places c.in_ok-places.ensures.form
-    c.args.draft.now c.put_value.new.draft (record { targets = face_found v.kind c.args.sense c.requires.kind; empty = c.requires.empty; put = rw (c.face_in.ensures, c.from_vec.ensures) at c.in_ok-put_value.ensures.ok })
+    c.args.draft.now c.put_value.new.draft (record { targets = face_found v.kind c.args.sense c.args.wide c.requires.kind; empty = c.requires.empty; put = rw (c.face_in.ensures, c.from_vec.ensures) at c.in_ok-put_value.ensures.ok })

@@ -20,34 +20,34 @@ pub prove-unreachable-requires : goal.prove-unreachable-requires
 prove-unreachable-requires c =
     let v = c.args.view.now in
     let other : ¬ (c.of.result ≡ Polytope) = search rules in
-    other (c.of.ensures.value ∙ program_view v c.of.ensures.view (has_objective _ c.args.sense (face_read v.kind c.args.sense c.requires.kind)))
+    other (c.of.ensures.value ∙ program_view v c.of.ensures.view (has_objective _ c.args.sense (face_read v.kind c.args.sense c.args.wide c.requires.kind)))
 
 pub rows_of-requires-clause-source : goal.rows_of-requires-clause-source
-rows_of-requires-clause-source c = has_rays _ c.args.sense (face_read c.args.view.now.kind c.args.sense c.requires.kind)
+rows_of-requires-clause-source c = has_rays _ c.args.sense (face_read c.args.view.now.kind c.args.sense c.args.wide c.requires.kind)
 
 pub objective_of-objective-requires : goal.objective_of-objective-requires
-objective_of-objective-requires c = has_objective _ c.args.sense (face_read c.args.view.now.kind c.args.sense c.requires.kind)
+objective_of-objective-requires c = has_objective _ c.args.sense (face_read c.args.view.now.kind c.args.sense c.args.wide c.requires.kind)
 
-pub places_of_value-requires-clause-stays : goal.places_of_value-requires-clause-stays
-places_of_value-requires-clause-stays c = objective_stays c.args.view.now c.of.ensures.view c.objective_of-objective.result.now c.objective_of-objective.ensures
+pub places_of_value_by-requires-clause-stays : goal.places_of_value_by-requires-clause-stays
+places_of_value_by-requires-clause-stays c = objective_stays c.args.view.now c.of.ensures.view c.objective_of-objective.result.now c.objective_of-objective.ensures
 
-pub places_of_value-requires-clause-some : goal.places_of_value-requires-clause-some
-places_of_value-requires-clause-some c = objective_some c.args.view.now c.of.ensures.view c.objective_of-objective.result.now c.objective_of-objective.ensures
+pub places_of_value_by-requires-clause-some : goal.places_of_value_by-requires-clause-some
+places_of_value_by-requires-clause-some c = objective_some c.args.view.now c.of.ensures.view c.objective_of-objective.result.now c.objective_of-objective.ensures
 
-pub places_of_value-requires-clause-cols : goal.places_of_value-requires-clause-cols
-places_of_value-requires-clause-cols c =
+pub places_of_value_by-requires-clause-cols : goal.places_of_value_by-requires-clause-cols
+places_of_value_by-requires-clause-cols c =
     let v = c.args.view.now in
     rw (c.deref.ensures.value, objective_cols v c.of.ensures.view c.objective_of-objective.result.now c.objective_of-objective.ensures) (rows_cols v c.of.ensures.view Vertices refl c.in_ok-rays.rays.items c.in_ok-rays.ensures.read)
 
-pub places_of_value-requires-clause-few : goal.places_of_value-requires-clause-few
-places_of_value-requires-clause-few c = rw c.deref.ensures.value (rows_few c.args.view.now c.of.ensures.view Vertices refl c.in_ok-rays.rays.items c.in_ok-rays.ensures.read)
+pub places_of_value_by-requires-clause-few : goal.places_of_value_by-requires-clause-few
+places_of_value_by-requires-clause-few c = rw c.deref.ensures.value (rows_few c.args.view.now c.of.ensures.view Vertices refl c.in_ok-rays.rays.items c.in_ok-rays.ensures.read)
 
 pub returns-in_err-places-in-Finite-clause-fails : goal.returns-in_err-places-in-Finite-clause-fails
 returns-in_err-places-in-Finite-clause-fails c =
     let v = c.args.view.now in
     let w = err_from_is_err_and c.from_residual-in_err-places-in-Finite.result c.from_residual-in_err-places-in-Finite.ensures.1 in
     rw w.1 (subst (FailsBy (IsWideFace v)) (sym w.2)
-    (face_fails v c.args.sense c.objective_of-objective.result.now c.objective_of-objective.ensures c.in_err-places-in-Finite.field-0.0 c.requires.kind c.in_ok-rays.rays.items c.in_ok-rays.ensures.read _
+    (face_fails v c.args.sense c.objective_of-objective.result.now c.objective_of-objective.ensures c.in_err-places-in-Finite.field-0.0 c.args.wide c.requires.kind c.in_ok-rays.rays.items c.in_ok-rays.ensures.read _
     (subst (λ z. fact_of (optimum c.args.sense) v.facts ≡ Some (extended (extended_of z))) c.in-Finite.is c.requires.value)
     (rw (c.deref.ensures.value) at c.in_err-places-in-Finite.ensures.wide)))
 
