@@ -12,7 +12,7 @@ use crate::basis::Growing;
 use crate::pivot::{pivot_of, pivot_row};
 use crate::round::place_of;
 use crate::step::{factors_at, is_zero_at};
-use pm_vector::{Ints, Wide, WideInt, combine_primitive};
+use pm_vector::{Ints, Wide, WideInt, combine, combine_primitive, primitive};
 use std::alloc::{AllocError, AllocFailed, Global};
 use thiserror::Error;
 
@@ -38,7 +38,7 @@ impl<T: Drop> From<AllocFailed<T>> for WideFail {
     }
 }
 
-/// The primitive row in the direction of p row - q by.
+/// The primitive row in the direction of p row - q by, by wide numbers.
 fn wide_difference(alloc: Global, p: i128, row: &Ints, q: i128, by: &Ints) -> Result<Ints, WideFail>
     requires { length row.now ≡ length by.now }
     ensures { IfOk result (λ w. IsPrimitiveOf (difference p row.now q by.now) w) }
@@ -47,6 +47,27 @@ fn wide_difference(alloc: Global, p: i128, row: &Ints, q: i128, by: &Ints) -> Re
     match combine_primitive(WideInt::of(p), &mut entries, WideInt::of(q), by.as_slice()) {
         Ok(()) => Ok(Ints::from_vec(entries)),
         Err(Wide) => Err(WideFail::Lost),
+    }
+}
+
+/// The primitive row in the direction of p row - q by; by wide numbers where those of the range do not suffice.
+fn primitive_difference(
+    alloc: Global,
+    p: i128,
+    row: &Ints,
+    q: i128,
+    by: &Ints,
+) -> Result<Ints, WideFail>
+    requires { length row.now ≡ length by.now }
+    ensures { IfOk result (λ w. IsPrimitiveOf (difference p row.now q by.now) w) }
+{
+    let mut made = row.copy(alloc)?;
+    match combine(p, &mut made, q, by) {
+        Ok(()) => {
+            primitive(&mut made);
+            Ok(made)
+        }
+        Err(Wide) => wide_difference(alloc, p, row, q, by),
     }
 }
 
@@ -61,7 +82,7 @@ fn reduced_once(alloc: Global, row: &Ints, by: &Ints, pivot: usize) -> Result<In
         return Ok(row.copy(alloc)?);
     }
     let factors = factors_at(row, by, pivot);
-    wide_difference(alloc, factors.first, row, factors.second, by)
+    primitive_difference(alloc, factors.first, row, factors.second, by)
 }
 
 /// A row, reduced by the rows of an echelon basis, in turn.
