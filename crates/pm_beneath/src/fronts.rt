@@ -64,7 +64,7 @@ pub(crate) fn next_front(
     rows: &[Ints],
     start: usize,
     front: usize,
-    rays: &Rays,
+    rays: Rays,
     cells: &[Vec<u32>],
     wide: bool,
 ) -> Result<Front, DdFail>
@@ -77,10 +77,10 @@ pub(crate) fn next_front(
     requires within { front < length rows.now }
     requires spans { SameSpan (equations.now ++ take start rows.now) (equations.now ++ rows.now) }
     requires rank { IsRank (equations.now ++ rows.now) (length equations.now + start) }
-    requires table { IsRayTable cols equations.now rows.now front rays.now.rows.items rays.now.zeros.rows }
-    requires row_len { rays.now.zeros.row_len ≡ length rows.now }
-    requires few { length rays.now.rows.items ≤ MOST_ROWS }
-    requires reduced { AreReduced cols (equations.now ++ take start rows.now) rays.now.rows.items }
+    requires table { IsRayTable cols equations.now rows.now front rays.rows.items rays.zeros.rows }
+    requires row_len { rays.zeros.row_len ≡ length rows.now }
+    requires few { length rays.rows.items ≤ MOST_ROWS }
+    requires reduced { AreReduced cols (equations.now ++ take start rows.now) rays.rows.items }
     requires cells { All (IsAscending front) (map (λ s. s.items) cells.now) }
     ensures table { IfOk result (λ r.
         IsRayTable cols equations.now rows.now (front + 1) r.rays.rows.items r.rays.zeros.rows) }
@@ -89,11 +89,11 @@ pub(crate) fn next_front(
     ensures reduced { IfOk result (λ r.
         AreReduced cols (equations.now ++ take start rows.now) r.rays.rows.items) }
     ensures cells { IfOk result (λ r.
-        AreNextCells rows.now rays.now.rows.items front (map (λ s. s.items) cells.now) (map (λ s.
+        AreNextCells rows.now rays.rows.items front (map (λ s. s.items) cells.now) (map (λ s.
         s.items) r.cells.items)) }
     ensures shown { IfErr result (IsShownOnRows cols equations.now rows.now start) }
 {
-    let values = front_products(alloc, cols, equations, rows, start, front, rays, wide)?;
+    let values = front_products(alloc, cols, equations, rows, start, front, &rays, wide)?;
     let made = next_cells(alloc, cells, &values, &rays.zeros, front as u32)?;
     let next = rays_after(alloc, cols, equations, rows, start, front, rays, wide)?;
     Ok(Front {

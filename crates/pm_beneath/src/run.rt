@@ -132,7 +132,7 @@ pub(crate) fn all_cells(
     let mut cells = first_cells(alloc, start)?;
     for front in start..rows.len() {
         let next = next_front(
-            alloc, cols, equations, rows, start, front, &rays, &cells, wide,
+            alloc, cols, equations, rows, start, front, rays, &cells, wide,
         )?;
         rays = next.rays;
         let few = few_cells(front + 1, next.cells)?;

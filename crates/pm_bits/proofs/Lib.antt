@@ -8,3 +8,4 @@ pub mod Common
 pub mod Folds
 pub mod Differences
 pub mod MemberLists
+pub mod TableEdits

@@ -1,11 +1,12 @@
 // A list of rows of one length.
-ghost use Rattle.std.specs.Prelude.{◌≡◌, ◌≢◌, ℕ, ◌<◌, ◌≤◌, ◌↔◌, ◌++◌, [], ◌∷◌, IsTrue, OnOk, OnErr, IfErr, length};
+ghost use Rattle.std.specs.Prelude.{◌≡◌, ◌≢◌, ℕ, ◌<◌, ◌≤◌, ◌↔◌, ◌++◌, [], ◌∷◌, IsTrue, OnOk, OnErr, IfErr, length, take};
+ghost use Rattle.std.specs.List.{swap};
 ghost use Rattle.pm_bits.specs.Folds.{IsFold};
-ghost use Rattle.pm_bits.specs.Sets.{IsSubset, common_count};
+ghost use Rattle.pm_bits.specs.Sets.{has, IsSubset, common_count};
 ghost use Rattle.pm_bits.specs.Table.{row_at, OtherContains};
 
 use crate::{BitRow, words};
-use std::alloc::Global;
+use std::alloc::{AllocError, Global};
 use std::marker::Model;
 
 /// A list of rows of one length. Beside the rows stands one word for each, its fold: the bit b of the fold says
@@ -87,6 +88,57 @@ impl BitTable {
         let fold = row.fold();
         self.rows.push(row).map_err(|failed| failed.value)?;
         let Ok(()) = self.folds.push(fold) else {
+            unreachable!()
+        };
+        Ok(())
+    }
+
+    /// Makes `i` a member of the row at `k`.
+    pub fn set(&mut self, k: usize, i: usize)
+        requires place { k < length self.old.rows }
+        requires number { i < self.old.row_len }
+        ensures row_len { self.new.row_len ≡ self.old.row_len }
+        ensures as_many { length self.new.rows ≡ length self.old.rows }
+        ensures len { length (row_at self.new k) ≡ length (row_at self.old k) }
+        ensures member { IsTrue (has (row_at self.new k) i) }
+        ensures others { (m : ℕ) → m ≢ i → has (row_at self.new k) m ≡ has (row_at self.old k) m }
+        ensures rows { (j : ℕ) → j ≢ k → row_at self.new j ≡ row_at self.old j }
+    {
+        self.rows[k].set(i);
+        self.folds[k] |= 1 << (i % 64);
+    }
+
+    /// Lets the rows at `i` and at `j` change places.
+    pub fn swap(&mut self, i: usize, j: usize)
+        requires first { i < length self.old.rows }
+        requires second { j < length self.old.rows }
+        ensures rows { self.new.rows ≡ swap self.old.rows i j }
+        ensures row_len { self.new.row_len ≡ self.old.row_len }
+    {
+        self.rows.swap(i, j);
+        self.folds.swap(i, j);
+    }
+
+    /// Drops all rows but the first `len`.
+    pub fn truncate(&mut self, len: usize)
+        ensures rows { self.new.rows ≡ take len self.old.rows }
+        ensures row_len { self.new.row_len ≡ self.old.row_len }
+    {
+        self.rows.truncate(len);
+        self.folds.truncate(len);
+    }
+
+    /// Moves the rows of another table to the end. Where memory lacks the table is as it was.
+    pub fn append(&mut self, other: BitTable) -> Result<(), AllocError>
+        requires { other.row_len ≡ self.old.row_len }
+        ensures ok { OnOk result (self.new.rows ≡ self.old.rows ++ other.rows) }
+        ensures row_len { self.new.row_len ≡ self.old.row_len }
+        ensures err { OnErr result (self.new ≡ self.old) }
+    {
+        let mut more = other;
+        self.folds.reserve(more.folds.len())?;
+        self.rows.append(&mut more.rows)?;
+        let Ok(()) = self.folds.append(&mut more.folds) else {
             unreachable!()
         };
         Ok(())

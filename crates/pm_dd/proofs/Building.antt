@@ -2,8 +2,9 @@
 use Rattle.std.specs.Prelude.{ℕ, suc, ◌+◌, ◌-◌, ◌≡◌, ◌<◌, ◌≤◌, ◌⊎◌, ◌↔◌, ◌&&◌, Bool, true, false, IsTrue, List, [], ◌∷◌, ◌++◌, length, get_or, take, drop}
 use Rattle.std.specs.List.{All}
 use Rattle.std.proofs.Common.{arith, refl, sym, subst, ap, ◌∙◌, inl, inr}
+use Rattle.std.proofs.lemmas.Bool.{cases_lt}
 use Rattle.std.proofs.lemmas.Int.{ints}
-use Rattle.std.proofs.lemmas.List.{ext_get_or, get_or-append-add, get_or-drop, get_or-take, get_or_append_left, get_or_default, get_or_push, length-append, length-drop, length-take-le, length_push}
+use Rattle.std.proofs.lemmas.List.{ext_get_or, get_or-append-add, get_or-append_right, get_or-drop, get_or-take, get_or_append_left, get_or_default, get_or_push, length-append, length-drop, length-take-le, length_push}
 use Rattle.pm_vector.specs.Cones.{InSpan, IsConeSet}
 use Rattle.pm_vector.specs.Divisors.{IsPrimitive}
 use Rattle.pm_vector.specs.Rows.{Row, dot, entry, times, HasCols, IsZero, Same}
@@ -26,7 +27,7 @@ use Rattle.pm_dd.specs.Form.{KeepForm}
 use Rattle.pm_dd.specs.Fronts.{both_signs, HalfSpaces}
 use Rattle.pm_dd.specs.StepFails.{AreTooMany}
 use Rattle.pm_dd.specs.Tables.{IsRayTable, IsZeroSet, zero_set}
-use Rattle.pm_dd.specs.Building.{AllBut, IsBuilt, IsCombination, IsMade, IsNoPair, IsPairRay, NextSet, NextZeros, SeenKept, SeenPairs}
+use Rattle.pm_dd.specs.Building.{AllBut, IsBuilt, IsCombination, IsMade, IsNoPair, IsPair, IsPairRay, NextSet, NextZeros, SeenKept, SeenPairs}
 use Rattle.pm_dd.proofs.AlikeLaws.{alike_sym, alike_trans}
 use Rattle.pm_dd.proofs.Description.{cut_cone_set}
 use Rattle.pm_dd.proofs.Next.{not_line}
@@ -290,25 +291,21 @@ module _ (n : ℕ) (E J : List Row) (f : ℕ) (V : List Row) where
       back (kept k) p h = elim (ℕ_discrete k i) [ yes e ↦ absurd (let u = p.1 in let v : dot (row_at J f) (ray V k) <ℤ pos 0 = subst (λ (m : ℕ). dot (row_at J f) (ray V m) <ℤ pos 0) (sym e) down in omega (arith, ints)) | no ne ↦ omega arith ]
       back (pair k l) p h = h
 
-  pub pairs_first : (W : List Row) (Y : List (List Bool)) → IsBuilt n E J f V (SeenKept (length V)) W Y → IsBuilt n E J f V (SeenPairs 0 0) W Y
-  pairs_first W Y b = built_same (SeenKept (length V)) (SeenPairs 0 0) W Y to back b
+  pub pairs_first : IsBuilt n E J f V (SeenPairs 0 0) [] []
+  pairs_first = built_none (SeenPairs 0 0) none'
     where
-      to : (r : Source) → SeenKept (length V) r → SeenPairs 0 0 r
-      to (kept k) h = tt
-      to (pair k l) h = absurd h
-
-      back : (r : Source) → IsSource (take f J) (row_at J f) V r → SeenPairs 0 0 r → SeenKept (length V) r
-      back (kept k) p h = p.0
-      back (pair k l) p (inl h) = omega arith
-      back (pair k l) p (inr h) = (let q = h.1 in omega arith)
+      none' : (q : Source) → ¬ (SeenPairs 0 0 q)
+      none' (kept k) h = h
+      none' (pair k l) (inl h) = omega arith
+      none' (pair k l) (inr h) = (let q = h.1 in omega arith)
 
   pairs_on : (i j : ℕ) (r : Source) → SeenPairs i j r → SeenPairs i (j + 1) r
-  pairs_on i j (kept k) h = tt
+  pairs_on i j (kept k) h = h
   pairs_on i j (pair k l) (inl h) = inl h
   pairs_on i j (pair k l) (inr h) = inr (h.0, (let q = h.1 in omega arith))
 
   pairs_back : (i j : ℕ) (r : Source) → SeenPairs i (j + 1) r → SeenPairs i j r ⊎ (r ≡ pair i j)
-  pairs_back i j (kept k) h = inl tt
+  pairs_back i j (kept k) h = inl h
   pairs_back i j (pair k l) (inl h) = inl (inl h)
   pairs_back i j (pair k l) (inr h) = elim (ℕ_discrete l j) [ yes e ↦ inr (both h.0 e) | no ne ↦ inl (inr (h.0, (let q = h.1 in omega arith))) ]
     where
@@ -329,12 +326,12 @@ module _ (n : ℕ) (E J : List Row) (f : ℕ) (V : List Row) where
   pairs_row i W Y b = built_same (SeenPairs i (length V)) (SeenPairs (i + 1) 0) W Y to back b
     where
       to : (r : Source) → SeenPairs i (length V) r → SeenPairs (i + 1) 0 r
-      to (kept k) h = tt
+      to (kept k) h = h
       to (pair k l) (inl h) = inl (omega arith)
       to (pair k l) (inr h) = inl (let q = h.0 in omega arith)
 
       back : (r : Source) → IsSource (take f J) (row_at J f) V r → SeenPairs (i + 1) 0 r → SeenPairs i (length V) r
-      back (kept k) p h = tt
+      back (kept k) p h = h
       back (pair k l) p (inl h) = elim (ℕ_discrete k i) [ yes e ↦ inr (e, p.1) | no ne ↦ inl (omega arith) ]
       back (pair k l) p (inr h) = absurd (let q = h.1 in omega arith)
 
@@ -343,21 +340,91 @@ module _ (n : ℕ) (E J : List Row) (f : ℕ) (V : List Row) where
   pairs_none_row i W Y b none = built_same (SeenPairs i 0) (SeenPairs (i + 1) 0) W Y to back b
     where
       to : (r : Source) → SeenPairs i 0 r → SeenPairs (i + 1) 0 r
-      to (kept k) h = tt
+      to (kept k) h = h
       to (pair k l) (inl h) = inl (omega arith)
       to (pair k l) (inr h) = absurd (let q = h.1 in omega arith)
 
       back : (r : Source) → IsSource (take f J) (row_at J f) V r → SeenPairs (i + 1) 0 r → SeenPairs i 0 r
-      back (kept k) p h = tt
+      back (kept k) p h = h
       back (pair k l) p (inl h) = elim (ℕ_discrete k i) [ yes e ↦ absurd (none l (subst (λ (m : ℕ). IsSource (take f J) (row_at J f) V (pair m l)) e p)) | no ne ↦ inl (omega arith) ]
       back (pair k l) p (inr h) = absurd (let q = h.1 in omega arith)
 
   pub pairs_skip_row : (i : ℕ) (W : List Row) (Y : List (List Bool)) → IsBuilt n E J f V (SeenPairs i 0) W Y → dot (row_at J f) (ray V i) ≤ℤ pos 0 → IsBuilt n E J f V (SeenPairs (i + 1) 0) W Y
   pairs_skip_row i W Y b low = pairs_none_row i W Y b (λ l p. let u = p.2 in omega (arith, ints))
 
-  pub pairs_all : (i : ℕ) → length V ≤ i → (q : Source) → IsSource (take f J) (row_at J f) V q → SeenPairs i 0 q
-  pairs_all i l (kept k) p = tt
-  pairs_all i l (pair k m) p = inl (let u = p.0 in omega arith)
+  -- all pairs were seen
+  pub pairs_all : (i : ℕ) → length V ≤ i → (W : List Row) (Y : List (List Bool)) → IsBuilt n E J f V (SeenPairs i 0) W Y → IsBuilt n E J f V IsPair W Y
+  pairs_all i le W Y = built_same (SeenPairs i 0) IsPair W Y to back
+    where
+      to : (r : Source) → SeenPairs i 0 r → IsPair r
+      to (kept k) h = h
+      to (pair k l) h = tt
+
+      back : (r : Source) → IsSource (take f J) (row_at J f) V r → IsPair r → SeenPairs i 0 r
+      back (kept k) p h = h
+      back (pair k l) p h = inl (let u = p.0 in omega arith)
+
+  -- ---- the kept rays, and after them combinations
+  module _ (seen seen' : Source → Type 0) (apart : (q : Source) → seen q → ¬ (seen' q)) (W W' : List Row) (Y Y' : List (List Bool)) (b : IsBuilt n E J f V seen W Y) (c : IsBuilt n E J f V seen' W' Y') where
+    long_both : length (W ++ W') ≡ length W + length W'
+    long_both = length-append W W'
+
+    first_source : (k : ℕ) → k < length W → get_or (b.sources ++ c.sources) k (kept 0) ≡ get_or b.sources k (kept 0)
+    first_source k l = get_or_append_left b.sources c.sources (kept 0) k (let e = b.as_many in omega arith)
+
+    later_source : (k : ℕ) → length W ≤ k → get_or (b.sources ++ c.sources) k (kept 0) ≡ get_or c.sources (k - length W) (kept 0)
+    later_source k past = get_or-append_right b.sources c.sources (length W) k (kept 0) b.as_many past
+
+    both_made : (k : ℕ) → k < length (W ++ W') → IsMade n E J f V (get_or (b.sources ++ c.sources) k (kept 0)) (ray (W ++ W') k) (zero_set (Y ++ Y') k)
+    both_made k l = elim (cases_lt k (length W)) [
+      | inl before ↦ (let e = b.zeros_many in rw (first_source k before, get_or_append_left W W' [] k before, get_or_append_left Y Y' [] k (omega arith)) (b.made k before))
+      | inr past ↦ rw (later_source k past, get_or-append_right W W' (length W) k [] refl past, get_or-append_right Y Y' (length W) k [] b.zeros_many past) (c.made (k - length W) (let g = long_both in omega arith))
+    ]
+
+    both_only : (k : ℕ) → k < length (W ++ W') → seen (get_or (b.sources ++ c.sources) k (kept 0)) ⊎ seen' (get_or (b.sources ++ c.sources) k (kept 0))
+    both_only k l = elim (cases_lt k (length W)) [
+      | inl before ↦ inl (subst seen (sym (first_source k before)) (b.only k before))
+      | inr past ↦ inr (subst seen' (sym (later_source k past)) (c.only (k - length W) (let g = long_both in omega arith)))
+    ]
+
+    both_every : (q : Source) → IsSource (take f J) (row_at J f) V q → seen q ⊎ seen' q → (k : ℕ) × (k < length (W ++ W')) × (get_or (b.sources ++ c.sources) k (kept 0) ≡ q)
+    both_every q p (inl h) = let g = b.every q p h in (g.0, (let l = g.1 in let e = long_both in omega arith), first_source g.0 g.1 ∙ g.2)
+    both_every q p (inr h) = let g = c.every q p h in (length b.sources + g.0, (let l = g.1 in let e = long_both in let m = b.as_many in omega arith), get_or-append-add b.sources c.sources g.0 (kept 0) ∙ g.2)
+
+    both_once : (i j : ℕ) → i < j → j < length (W ++ W') → ¬ (get_or (b.sources ++ c.sources) i (kept 0) ≡ get_or (b.sources ++ c.sources) j (kept 0))
+    both_once i j l m e = elim (cases_lt j (length W)) [
+      | inl before ↦ (let li : i < length W = omega arith in b.once i j l before (sym (first_source i li) ∙ e ∙ first_source j before))
+      | inr past ↦ elim (cases_lt i (length W)) [
+        | inl li ↦ (let same = sym (first_source i li) ∙ e ∙ later_source j past in
+            apart (get_or b.sources i (kept 0)) (b.only i li) (subst seen' (sym same) (c.only (j - length W) (let g = long_both in omega arith))))
+        | inr from ↦ c.once (i - length W) (j - length W) (omega arith) (let g = long_both in omega arith) (sym (later_source i from) ∙ e ∙ later_source j past)
+      ]
+    ]
+
+    pub built_both : IsBuilt n E J f V (λ q. seen q ⊎ seen' q) (W ++ W') (Y ++ Y')
+    built_both = record {
+      sources = b.sources ++ c.sources;
+      as_many = length-append b.sources c.sources ∙ (let e = b.as_many in let g = c.as_many in let h = long_both in omega arith);
+      zeros_many = length-append Y Y' ∙ (let e = b.zeros_many in let g = c.zeros_many in let h = long_both in omega arith);
+      made = both_made;
+      only = both_only;
+      every = both_every;
+      once = both_once;
+    }
+
+  -- no kept ray is a pair
+  pub kept_no_pair : (i : ℕ) (q : Source) → SeenKept i q → ¬ (IsPair q)
+  kept_no_pair i (kept k) h g = g
+  kept_no_pair i (pair k l) h g = h
+
+  pub kept_unpaired : (m i j : ℕ) (q : Source) → SeenKept m q → ¬ (SeenPairs i j q)
+  kept_unpaired m i j (kept k) h g = g
+  kept_unpaired m i j (pair k l) h g = h
+
+  -- each source is a kept ray or a pair
+  pub kept_or_pair : (q : Source) → IsSource (take f J) (row_at J f) V q → SeenKept (length V) q ⊎ IsPair q
+  kept_or_pair (kept k) p = inl p.0
+  kept_or_pair (pair k l) p = inr tt
 
 -- ---- one more entry
 pub entries_more : (P : ℕ → ℤ → Type 0) (v : List ℤ) (x : ℤ) (i : ℕ) → length v ≡ i → ((k : ℕ) → k < i → P k (entry v k)) → P i x → (k : ℕ) → k < i + 1 → P k (entry (v ++ x ∷ []) k)

@@ -11,6 +11,7 @@ pub mod Fronts
 pub mod Tables
 pub mod Building
 pub mod Negatives
+pub mod Moving
 pub mod FarRays
 pub mod Stated
 pub mod StepFails

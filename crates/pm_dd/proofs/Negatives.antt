@@ -61,12 +61,12 @@ module _ (n : ℕ) (E J : List Row) (f : ℕ) (V : List Row) (v : List ℤ) (sta
   pairs_pass start end W Y le far b = built_same n E J f V (SeenPairs i start) (SeenPairs i end) W Y to back b
     where
       to : (r : Source) → SeenPairs i start r → SeenPairs i end r
-      to (kept k) h = tt
+      to (kept k) h = h
       to (pair k l) (inl h) = inl h
       to (pair k l) (inr h) = inr (h.0, (let q = h.1 in omega arith))
 
       back : (r : Source) → IsSource (take f J) (row_at J f) V r → SeenPairs i end r → SeenPairs i start r
-      back (kept k) p h = tt
+      back (kept k) p h = h
       back (pair k l) p (inl h) = inl h
       back (pair k l) p (inr h) = elim (cases_lt l start) [
         | inl before ↦ inr (h.0, before)

@@ -1,5 +1,5 @@
 -- The rays of the next front, while they are made.
-use Rattle.std.specs.Prelude.{ℕ, suc, ◌+◌, ◌-◌, ◌^◌, ◌≡◌, ◌<◌, ◌≤◌, ◌⊎◌, ◌↔◌, IsTrue, Bool, List, [], ◌∷◌, length, get_or, take}
+use Rattle.std.specs.Prelude.{ℕ, suc, ◌+◌, ◌-◌, ◌^◌, ◌≡◌, ◌<◌, ◌≤◌, ◌⊎◌, ◌↔◌, IsTrue, Bool, List, [], ◌∷◌, count_by, get_or, int_le, length, take}
 use Rattle.pm_vector.specs.Divisors.{IsPrimitiveOf}
 use Rattle.pm_vector.specs.Numbers.{InRange}
 use Rattle.pm_vector.specs.Rows.{Row, dot, entry}
@@ -75,15 +75,28 @@ pub record IsBuilt (n : ℕ) (E J : List Row) (f : ℕ) (V : List Row) (seen : S
       → (k : ℕ) × (k < length W) × (get_or sources k (kept 0) ≡ s)
   pub once : (i j : ℕ) → i < j → j < length W → ¬ (get_or sources i (kept 0) ≡ get_or sources j (kept 0))
 
+-- for some zero sets W is built
+abbrev pub IsListed : ℕ → List Row → List Row → ℕ → List Row → (Source → Type 0) → List Row → Type 0
+IsListed n E J f V seen W = (Y : List (List Bool)) × IsBuilt n E J f V seen W Y
+
 -- the kept rays before i
 abbrev pub SeenKept : ℕ → Source → Type 0
 SeenKept i (kept k) = k < i
 SeenKept i (pair k l) = ⊥
 
--- all kept rays, and the pairs before (i, j)
+-- how many values are not negative
+abbrev pub kept_count : List ℤ → ℕ
+kept_count v = count_by (int_le (pos 0)) v
+
+-- the pairs before (i, j)
 abbrev pub SeenPairs : ℕ → ℕ → Source → Type 0
-SeenPairs i j (kept k) = Unit {0}
+SeenPairs i j (kept k) = ⊥
 SeenPairs i j (pair k l) = (k < i) ⊎ ((k ≡ i) × (l < j))
+
+-- all pairs
+abbrev pub IsPair : Source → Type 0
+IsPair (kept k) = ⊥
+IsPair (pair k l) = Unit {0}
 
 -- w is (a.r) s - (a.s) r made primitive
 abbrev pub IsCombination : Row → Row → Row → Row → Type 0

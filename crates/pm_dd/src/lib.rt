@@ -18,6 +18,7 @@ mod fails;
 pub mod first;
 mod hull;
 mod leading;
+mod many;
 mod mixed;
 mod near;
 mod order;

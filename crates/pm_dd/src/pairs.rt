@@ -3,8 +3,7 @@
 ghost use Rattle.pm_vector.specs.Cones.{InSpan};
 ghost use Rattle.pm_vector.specs.Rows.{HasCols, dot};
 ghost use Rattle.pm_vector.specs.Bases.{IsRank, row_at};
-ghost use Rattle.pm_dd.specs.Building.{IsBuilt, IsNoPair, IsPairRay, SeenKept, StandFor};
-ghost use Rattle.pm_dd.specs.Form.{KeepForm};
+ghost use Rattle.pm_dd.specs.Building.{IsBuilt, IsNoPair, IsPair, IsPairRay, StandFor, kept_count};
 ghost use Rattle.pm_dd.specs.StepFails.{IsPairFailOf, IsStepFail};
 ghost use Rattle.pm_dd.specs.Tables.{IsRayTable};
 ghost use Rattle.pm_geom.specs.Faces.{ray};
@@ -12,9 +11,10 @@ ghost use Rattle.std.specs.Prelude.{IfErr, IfNone, IfOk, IfSome, length, pos, ta
 
 use crate::combination::combination_of;
 use crate::fails::{CombinationFail, StepFail};
+use crate::many::{count_kept, too_many};
 use crate::near::{near_negatives, unions_of};
 use crate::rays::{Ray, Rays};
-use pm_bits::BitRow;
+use pm_bits::{BitRow, BitTable};
 use pm_limits::MOST_ROWS;
 use pm_vector::Ints;
 use std::alloc::Global;
@@ -87,7 +87,7 @@ pub(crate) fn pair_ray(
     Ok(Some(Ray { row: made, zeros }))
 }
 
-/// The rays of the next front: kept ones, and the combinations of all adjacent pairs.
+/// The combinations of all adjacent pairs, with their zero sets for the next front.
 pub(crate) fn paired_rays(
     alloc: Global,
     cols: usize,
@@ -97,7 +97,6 @@ pub(crate) fn paired_rays(
     rank: usize,
     rays: &Rays,
     values: &[i128],
-    made: Rays,
     wide: bool,
 ) -> Result<Rays, StepFail>
     requires equation_cols { HasCols cols equations.now }
@@ -108,23 +107,20 @@ pub(crate) fn paired_rays(
     requires table { IsRayTable cols equations.now rows.now front rays.now.rows.items rays.now.zeros.rows }
     requires old_len { rays.now.zeros.row_len ≡ length rows.now }
     requires stand { StandFor (row_at rows.now front) rays.now.rows.items values.now }
-    requires new_len { made.zeros.row_len ≡ length rows.now }
-    requires kept { IsBuilt cols equations.now rows.now front rays.now.rows.items
-        (SeenKept (length rays.now.rows.items)) made.rows.items made.zeros.rows }
-    requires few { length made.rows.items ≤ MOST_ROWS }
+    requires few { length rays.now.rows.items ≤ MOST_ROWS }
     ensures row_len { IfOk result (λ r. r.zeros.row_len ≡ length rows.now) }
-    ensures few { IfOk result (λ r. length r.rows.items ≤ MOST_ROWS) }
-    ensures form { IfOk result (λ r. KeepForm rays.now.rows.items r.rows.items) }
-    ensures table { IfOk result (λ r.
-        IsRayTable cols equations.now rows.now (front + 1) r.rows.items r.zeros.rows) }
+    ensures few { IfOk result (λ r. kept_count values.now + length r.rows.items ≤ MOST_ROWS) }
+    ensures built { IfOk result (λ r. IsBuilt cols equations.now rows.now front rays.now.rows.items IsPair
+        r.rows.items r.zeros.rows) }
     ensures wide { IfErr result (λ f. IsStepFail cols equations.now rows.now front rays.now.rows.items f) }
 {
     let need = needed(rank, equations.len());
     let unions = unions_of(alloc, &rays.zeros, values)?;
     let negatives = near_negatives(alloc, &rays.zeros, values, &unions.ahead, need)?;
     let mut both = BitRow::with_len(alloc, rows.len())?;
-    let mut next = made.rows;
-    let mut zeros = made.zeros;
+    let kept = count_kept(values);
+    let mut next = Vec::new(alloc);
+    let mut zeros = BitTable::new(alloc, rows.len());
     for i in 0..rays.rows.len() {
         if values[i] <= 0 {
             continue;
@@ -153,8 +149,8 @@ pub(crate) fn paired_rays(
             let Ok(()) = zeros.push(ray.zeros) else {
                 return Err(StepFail::Memory);
             };
-            if next.len() > MOST_ROWS {
-                return Err(StepFail::Many(next));
+            if kept + next.len() > MOST_ROWS {
+                return Err(too_many(alloc, cols, equations, rows, front, rays, values, next)?);
             }
         }
     }

@@ -12,7 +12,7 @@ ghost use Rattle.std.specs.Prelude.{IfErr, IfOk, length, take, ◌*◌, ◌++◌
 
 use crate::fails::{DdFail, StepFail};
 use crate::rays::Rays;
-use crate::step::next_rays;
+use crate::step::{next_rays, step_at};
 use pm_geom::{Evidence, RowList};
 use pm_limits::MOST_ROWS;
 use pm_vector::Ints;
@@ -94,7 +94,7 @@ pub fn rays_after(
     rows: &[Ints],
     start: usize,
     front: usize,
-    rays: &Rays,
+    rays: Rays,
     wide: bool,
 ) -> Result<Rays, DdFail>
     requires equation_cols { HasCols cols equations.now }
@@ -105,10 +105,10 @@ pub fn rays_after(
     requires within { front < length rows.now }
     requires spans { SameSpan (equations.now ++ take start rows.now) (equations.now ++ rows.now) }
     requires rank { IsRank (equations.now ++ rows.now) (length equations.now + start) }
-    requires table { IsRayTable cols equations.now rows.now front rays.now.rows.items rays.now.zeros.rows }
-    requires row_len { rays.now.zeros.row_len ≡ length rows.now }
-    requires few { length rays.now.rows.items ≤ MOST_ROWS }
-    requires reduced { AreReduced cols (equations.now ++ take start rows.now) rays.now.rows.items }
+    requires table { IsRayTable cols equations.now rows.now front rays.rows.items rays.zeros.rows }
+    requires row_len { rays.zeros.row_len ≡ length rows.now }
+    requires few { length rays.rows.items ≤ MOST_ROWS }
+    requires reduced { AreReduced cols (equations.now ++ take start rows.now) rays.rows.items }
     ensures table { IfOk result (λ r.
         IsRayTable cols equations.now rows.now (front + 1) r.rows.items r.zeros.rows) }
     ensures row_len { IfOk result (λ r. r.zeros.row_len ≡ length rows.now) }
@@ -118,10 +118,14 @@ pub fn rays_after(
     ensures shown { IfErr result (IsShownOnRows cols equations.now rows.now start) }
 {
     let rank = equations.len() + start;
-    match next_rays(alloc, cols, equations, rows, front, rank, rays, wide) {
-        Ok(next) => Ok(next),
-        Err(fail) => Err(refusal_of(alloc, cols, equations, rows, start, front, &rays.rows, fail)),
-    }
+    let step = match step_at(alloc, cols, equations, rows, front, rank, &rays, wide) {
+        Ok(step) => step,
+        Err(fail) => {
+            return Err(refusal_of(alloc, cols, equations, rows, start, front, &rays.rows, fail));
+        }
+    };
+    let next = next_rays(cols, equations, rows, front, rays, step)?;
+    Ok(next)
 }
 
 /// The rays of all rows: those of the first `start`, which with the equations are independent, and one step for each
@@ -154,7 +158,7 @@ pub(crate) fn all_rays(
 {
     let mut rays = first;
     for front in start..rows.len() {
-        rays = rays_after(alloc, cols, equations, rows, start, front, &rays, wide)?;
+        rays = rays_after(alloc, cols, equations, rows, start, front, rays, wide)?;
     }
     Ok(rays)
 }

@@ -1,21 +1,21 @@
-// One step of double description: the rays of a front with one row more.
+// One step of double description: the rays of a front with one row more. The rays that are kept are moved.
 
 ghost use Rattle.pm_vector.specs.Cones.{InSpan};
 ghost use Rattle.pm_vector.specs.Rows.{HasCols, dot as dot_of};
 ghost use Rattle.pm_vector.specs.WideInts.{value_of};
 ghost use Rattle.pm_vector.specs.Bases.{IsRank, row_at};
-ghost use Rattle.pm_dd.specs.Building.{IsBuilt, NextZeros, SeenKept, StandFor, StandsFor};
+ghost use Rattle.pm_dd.specs.Building.{IsBuilt, IsPair, NextZeros, SeenKept, StandFor, StandsFor, kept_count};
 ghost use Rattle.pm_dd.specs.Form.{KeepForm};
 ghost use Rattle.pm_dd.specs.StepFails.{IfProduct, IsStepFail};
-ghost use Rattle.pm_dd.specs.Tables.{IsRayTable};
+ghost use Rattle.pm_dd.specs.Tables.{IsRayTable, zero_set};
 ghost use Rattle.pm_geom.specs.Faces.{ray};
 ghost use Rattle.pm_vector.specs.Products.{ProductsStay};
-ghost use Rattle.std.specs.Prelude.{IfErr, IfOk, IsTrue, OnErr, length, take, ◌++◌, ◌+◌, ◌<◌, ◌≡◌, ◌≤◌};
+ghost use Rattle.std.specs.Prelude.{IfErr, IfOk, IsTrue, OnErr, length, take, ℕ, ◌++◌, ◌+◌, ◌<◌, ◌≡◌, ◌≢◌, ◌≤◌};
 
 use crate::fails::StepFail;
 use crate::pairs::paired_rays;
-use crate::rays::{Ray, Rays};
-use pm_bits::{BitRow, BitTable};
+use crate::rays::Rays;
+use pm_bits::BitTable;
 use pm_limits::MOST_ROWS;
 use pm_vector::{Ints, Wide, WideInt, dot, wide_dot};
 use std::alloc::{AllocError, Global};
@@ -69,65 +69,66 @@ pub fn products(alloc: Global, row: &Ints, rays: &[Ints], wide: bool) -> Result<
     Ok(made)
 }
 
-/// A kept ray, with its zero set for the next front.
-pub(crate) fn kept_ray(
-    alloc: Global,
-    row: &Ints,
-    zeros: &BitRow,
-    value: i128,
-    front: usize,
-) -> Result<Ray, AllocError>
-    requires { front < length zeros.now }
-    ensures row { IfOk result (λ r. r.row ≡ row.now) }
-    ensures zeros { IfOk result (λ r. NextZeros zeros.now front value r.zeros) }
+/// Makes the zero set of a kept ray that for the next front.
+fn mark_zero(zeros: &mut BitTable, i: usize, value: i128, front: usize)
+    requires place { i < length zeros.old.rows }
+    requires front { front < zeros.old.row_len }
+    ensures row_len { zeros.new.row_len ≡ zeros.old.row_len }
+    ensures as_many { length zeros.new.rows ≡ length zeros.old.rows }
+    ensures next { NextZeros (zero_set zeros.old.rows i) front value (zero_set zeros.new.rows i) }
+    ensures others { (k : ℕ) → k ≢ i → zero_set zeros.new.rows k ≡ zero_set zeros.old.rows k }
 {
-    let mut made = BitRow::with_len(alloc, zeros.len())?;
-    zeros.meet_into(zeros, &mut made);
     if value == 0 {
-        made.set(front);
+        zeros.set(i, front);
     }
-    Ok(Ray {
-        row: row.copy(alloc)?,
-        zeros: made,
-    })
 }
 
-/// The kept rays of a table, with their zero sets for the next front.
+/// The kept rays of a table, in their order, with their zero sets for the next front.
 pub(crate) fn kept_rays(
-    alloc: Global,
     cols: usize,
     equations: &[Ints],
     rows: &[Ints],
     front: usize,
-    rays: &Rays,
+    rays: Rays,
     values: &[i128],
-) -> Result<Rays, AllocError>
+) -> Rays
     requires within { front < length rows.now }
-    requires table { IsRayTable cols equations.now rows.now front rays.now.rows.items rays.now.zeros.rows }
-    requires stand { StandFor (row_at rows.now front) rays.now.rows.items values.now }
-    ensures row_len { IfOk result (λ r. r.zeros.row_len ≡ length rows.now) }
-    ensures few { IfOk result (λ r. length r.rows.items ≤ length rays.now.rows.items) }
-    ensures built { IfOk result (λ r. IsBuilt cols equations.now rows.now front rays.now.rows.items
-        (SeenKept (length rays.now.rows.items)) r.rows.items r.zeros.rows) }
+    requires table { IsRayTable cols equations.now rows.now front rays.rows.items rays.zeros.rows }
+    requires row_len { rays.zeros.row_len ≡ length rows.now }
+    requires stand { StandFor (row_at rows.now front) rays.rows.items values.now }
+    ensures row_len { result.zeros.row_len ≡ length rows.now }
+    ensures count { length result.rows.items ≡ kept_count values.now }
+    ensures built { IsBuilt cols equations.now rows.now front rays.rows.items (SeenKept (length rays.rows.items))
+        result.rows.items result.zeros.rows }
 {
-    let mut made = Vec::new(alloc);
-    let mut zeros = BitTable::new(alloc, rows.len());
-    for i in 0..rays.rows.len() {
+    let mut made = rays.rows;
+    let mut zeros = rays.zeros;
+    let mut kept = 0;
+    for i in 0..values.len() {
         let value = values[i];
         if value < 0 {
             continue;
         }
-        let ray = kept_ray(alloc, &rays.rows[i], rays.zeros.row(i), value, front)?;
-        made.push(ray.row)?;
-        let Ok(()) = zeros.push(ray.zeros) else {
-            return Err(AllocError);
-        };
+        mark_zero(&mut zeros, i, value, front);
+        made.swap(kept, i);
+        zeros.swap(kept, i);
+        kept += 1;
     }
-    Ok(Rays { rows: made, zeros })
+    made.truncate(kept);
+    zeros.truncate(kept);
+    Rays { rows: made, zeros }
 }
 
-/// One step of double description: the rays of the front with one row more, with their zero sets.
-pub(crate) fn next_rays(
+/// What a step needs besides the rays of the front: the products of the next row with them, and the combinations of
+/// their adjacent pairs.
+#[derive(Drop)]
+pub(crate) struct Step {
+    pub values: Vec<i128>,
+    pub pairs: Rays,
+}
+
+/// What the step at a front needs besides its rays.
+pub(crate) fn step_at(
     alloc: Global,
     cols: usize,
     equations: &[Ints],
@@ -136,7 +137,7 @@ pub(crate) fn next_rays(
     rank: usize,
     rays: &Rays,
     wide: bool,
-) -> Result<Rays, StepFail>
+) -> Result<Step, StepFail>
     requires equation_cols { HasCols cols equations.now }
     requires row_cols { HasCols cols rows.now }
     requires within { front < length rows.now }
@@ -145,16 +146,49 @@ pub(crate) fn next_rays(
     requires table { IsRayTable cols equations.now rows.now front rays.now.rows.items rays.now.zeros.rows }
     requires row_len { rays.now.zeros.row_len ≡ length rows.now }
     requires few { length rays.now.rows.items ≤ MOST_ROWS }
-    ensures row_len { IfOk result (λ r. r.zeros.row_len ≡ length rows.now) }
-    ensures few { IfOk result (λ r. length r.rows.items ≤ MOST_ROWS) }
-    ensures form { IfOk result (λ r. KeepForm rays.now.rows.items r.rows.items) }
-    ensures table { IfOk result (λ r.
-        IsRayTable cols equations.now rows.now (front + 1) r.rows.items r.zeros.rows) }
+    ensures stand { IfOk result (λ s. StandFor (row_at rows.now front) rays.now.rows.items s.values.items) }
+    ensures row_len { IfOk result (λ s. s.pairs.zeros.row_len ≡ length rows.now) }
+    ensures few { IfOk result (λ s. kept_count s.values.items + length s.pairs.rows.items ≤ MOST_ROWS) }
+    ensures built { IfOk result (λ s. IsBuilt cols equations.now rows.now front rays.now.rows.items IsPair
+        s.pairs.rows.items s.pairs.zeros.rows) }
     ensures wide { IfErr result (λ f. IsStepFail cols equations.now rows.now front rays.now.rows.items f) }
 {
     let values = products(alloc, &rows[front], &rays.rows, wide)?;
-    let kept = kept_rays(alloc, cols, equations, rows, front, rays, &values)?;
-    paired_rays(
-        alloc, cols, equations, rows, front, rank, rays, &values, kept, wide,
-    )
+    let pairs = paired_rays(
+        alloc, cols, equations, rows, front, rank, rays, &values, wide,
+    )?;
+    Ok(Step { values, pairs })
+}
+
+/// The rays of the next front: the kept ones, moved, and after them the combinations, with their zero sets.
+pub(crate) fn next_rays(
+    cols: usize,
+    equations: &[Ints],
+    rows: &[Ints],
+    front: usize,
+    rays: Rays,
+    step: Step,
+) -> Result<Rays, AllocError>
+    requires equation_cols { HasCols cols equations.now }
+    requires row_cols { HasCols cols rows.now }
+    requires within { front < length rows.now }
+    requires spanned { InSpan (equations.now ++ take front rows.now) (row_at rows.now front) }
+    requires table { IsRayTable cols equations.now rows.now front rays.rows.items rays.zeros.rows }
+    requires row_len { rays.zeros.row_len ≡ length rows.now }
+    requires stand { StandFor (row_at rows.now front) rays.rows.items step.values.items }
+    requires pair_len { step.pairs.zeros.row_len ≡ length rows.now }
+    requires few { kept_count step.values.items + length step.pairs.rows.items ≤ MOST_ROWS }
+    requires built { IsBuilt cols equations.now rows.now front rays.rows.items IsPair
+        step.pairs.rows.items step.pairs.zeros.rows }
+    ensures row_len { IfOk result (λ r. r.zeros.row_len ≡ length rows.now) }
+    ensures few { IfOk result (λ r. length r.rows.items ≤ MOST_ROWS) }
+    ensures form { IfOk result (λ r. KeepForm rays.rows.items r.rows.items) }
+    ensures table { IfOk result (λ r.
+        IsRayTable cols equations.now rows.now (front + 1) r.rows.items r.zeros.rows) }
+{
+    let mut next = kept_rays(cols, equations, rows, front, rays, &step.values);
+    let mut pairs = step.pairs;
+    next.rows.append(&mut pairs.rows)?;
+    next.zeros.append(pairs.zeros)?;
+    Ok(next)
 }

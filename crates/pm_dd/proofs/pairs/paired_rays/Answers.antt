@@ -1,16 +1,17 @@
 use Rattle.pm_vector.specs.Rows.{dot, entry}
 use Rattle.pm_vector.specs.Bases.{row_at}
-use Rattle.pm_dd.proofs.Building.{built_form, built_many, built_table, front_cols, no_pair, pair_made, pairs_all, pairs_first, pairs_none_row, pairs_skip_row}
+use Rattle.pm_dd.proofs.Building.{front_cols, no_pair, pair_made, pairs_all, pairs_first, pairs_none_row, pairs_skip_row}
 use Rattle.pm_bits.specs.Sets.{common_count}
 use Rattle.pm_dd.proofs.FarRays.{far_ahead, far_behind}
+use Rattle.pm_dd.proofs.Moving.{kept_few}
 use Rattle.pm_dd.proofs.Negatives.{row_end, row_more, row_read, row_skip, row_start}
 use Rattle.pm_dd.proofs.Stands.{above_of, below_of, to_of}
 use Rattle.pm_dd.proofs.StepFails.{pair_fail}
 use Rattle.pm_dd.proofs.pairs.paired_rays.Goals as goal
-use Rattle.pm_dd.specs.Building.{IsNoPair, IsPairRay, IsPassed, SeenPairs}
+use Rattle.pm_dd.specs.Building.{IsNoPair, IsPairRay, IsPassed}
 use Rattle.pm_dd.specs.Tables.{zero_set}
 use Rattle.pm_geom.specs.Faces.{ray}
-use Rattle.std.proofs.Common.{[], arith, drop, length, ◌+◌, ◌-◌, ◌<◌, ◌≡◌, ◌≤◌, ◌∙◌}
+use Rattle.std.proofs.Common.{[], arith, drop, length, sym, ◌+◌, ◌-◌, ◌<◌, ◌≡◌, ◌≤◌, ◌∙◌}
 use Rattle.std.proofs.lemmas.List.{get_or_read}
 use Rattle.std.proofs.lemmas.Int.{ints}
 use Rattle.std.proofs.lemmas.Result.{err_from_is_err_and}
@@ -101,7 +102,7 @@ loop-k-preserved c =
     record {
       both_len = c.pair_ray.ensures.both ∙ c.loop-k.invariant.both_len;
       row_len = c.in-Ok.ensures.row_len ∙ c.loop-k.invariant.row_len;
-      few = let t = c.if-len-gt-MOST_ROWS.false in let n = c.len.ensures in let whole = c.push.new.self.ok.0 in omega arith;
+      few = let t = c.if-kept-len-gt-MOST_ROWS.false in let n = c.len.ensures in let whole = c.push.new.self.ok.0 in omega arith;
       built = rw (c.in_ok-push.ensures.items, c.in-Ok.ensures.ok) (row_more c.args.cols c.args.equations.now c.args.rows.now c.args.front c.args.rays.now.rows.items c.args.values.now c.requires.stand c.loop-i.i c.index-j.result.now (drop (c.loop-k.k + 1) c.in_ok-negatives.negatives.items) c.loop-k.next.items c.loop-k.zeros.rows row c.in-Some.ray.row c.in-Some.ray.zeros made);
     }
 
@@ -115,18 +116,17 @@ loop-i-preserved c =
       built = row_end c.args.cols c.args.equations.now c.args.rows.now c.args.front c.args.rays.now.rows.items c.args.values.now c.requires.stand c.loop-i.i c.in_ok-negatives.negatives.items c.loop-k.k c.loop-k.next.items c.loop-k.zeros.rows last c.loop-k.invariant.built;
     }
 
-pub returns-clause-table : goal.returns-clause-table
-returns-clause-table c =
+pub returns-clause-built : goal.returns-clause-built
+returns-clause-built c =
     let last : length c.args.rays.now.rows.items ≤ c.loop-i.i = omega arith in
-    built_table c.args.cols c.args.equations.now c.args.rows.now c.args.front c.requires.within c.args.rays.now.rows.items c.args.rays.now.zeros.rows c.requires.table c.requires.equation_cols c.requires.row_cols c.requires.spanned (SeenPairs c.loop-i.i 0) c.loop-i.next.items c.loop-i.zeros.rows
-    (pairs_all c.args.cols c.args.equations.now c.args.rows.now c.args.front c.args.rays.now.rows.items c.loop-i.i last) c.loop-i.invariant.built
+    pairs_all c.args.cols c.args.equations.now c.args.rows.now c.args.front c.args.rays.now.rows.items c.loop-i.i last c.loop-i.next.items c.loop-i.zeros.rows c.loop-i.invariant.built
 
 pub loop-i-init : goal.loop-i-init
 loop-i-init c = record {
   both_len = c.in_ok-both.ensures.len;
-  row_len = c.requires.new_len;
-  few = c.requires.few;
-  built = pairs_first c.args.cols c.args.equations.now c.args.rows.now c.args.front c.args.rays.now.rows.items c.args.made.rows.items c.args.made.zeros.rows c.requires.kept;
+  row_len = c.new-zeros.ensures.row_len;
+  few = let f = kept_few c.args.values.now in let m = c.requires.stand.as_many in let l = c.requires.few in let e = c.count_kept-kept.ensures in rw c.new-next.ensures.items (omega arith);
+  built = rw (c.new-next.ensures.items, c.new-zeros.ensures.rows) (pairs_first c.args.cols c.args.equations.now c.args.rows.now c.args.front c.args.rays.now.rows.items);
 }
 
 pub returns-in_err-ray-clause-wide : goal.returns-in_err-ray-clause-wide
@@ -141,8 +141,8 @@ returns-in_err-ray-clause-wide c =
     let p = err_from_is_err_and c.from_residual-in_err-ray.result c.from_residual-in_err-ray.ensures.1 in
     rw (p.1, p.2) (pair_fail c.args.cols c.args.equations.now c.args.rows.now c.args.front c.args.rays.now.rows.items c.args.rays.now.zeros c.requires.table c.loop-i.i c.index-j.result.now li row.left.0.within up down c.in_err-ray.field-0.0 (rw next at c.in_err-ray.ensures.wide))
 
-pub returns-then-len-gt-MOST_ROWS-clause-wide : goal.returns-then-len-gt-MOST_ROWS-clause-wide
-returns-then-len-gt-MOST_ROWS-clause-wide c =
+pub too_many-requires-clause-listed : goal.too_many-requires-clause-listed
+too_many-requires-clause-listed c =
     let next : c.index-rows-front.result ≡ row_at c.args.rows.now c.args.front = get_or_read c.args.rows.now c.args.front c.index-rows-front.result c.requires.within c.index-rows-front.is [] in
     let li : c.loop-i.i < length c.args.rays.now.rows.items = omega arith in
     let ti = c.if-values-i-le0.false in
@@ -152,14 +152,8 @@ returns-then-len-gt-MOST_ROWS-clause-wide c =
     let p : IsPairRay (row_at c.args.rows.now c.args.front) c.args.rays.now.rows.items c.args.rays.now.zeros c.loop-i.i c.index-j.result.now c.args.front c.in-Some.ray.row c.in-Some.ray.zeros = rw (c.in-Some.is, next) at c.in_ok-ray.ensures.some in
     let down = below_of (dot (row_at c.args.rows.now c.args.front) (ray c.args.rays.now.rows.items c.index-j.result.now)) (entry c.args.values.now c.index-j.result.now) (c.requires.stand.each c.index-j.result.now row.left.0.within) row.left.0.negative in
     let made = pair_made c.args.cols c.args.equations.now c.args.rows.now c.args.front c.requires.within c.args.rays.now.rows.items c.args.rays.now.zeros c.requires.table c.requires.equation_cols c.requires.row_cols c.requires.old_len c.loop-i.i c.index-j.result.now li row.left.0.within c.requires.spanned up down c.in-Some.ray.row c.in-Some.ray.zeros p in
-    let t = c.if-len-gt-MOST_ROWS.true in
-    let n = c.len.ensures in
-    let whole = c.push.new.self.ok.0 in
     let more = row_more c.args.cols c.args.equations.now c.args.rows.now c.args.front c.args.rays.now.rows.items c.args.values.now c.requires.stand c.loop-i.i c.index-j.result.now (drop (c.loop-k.k + 1) c.in_ok-negatives.negatives.items) c.loop-k.next.items c.loop-k.zeros.rows row c.in-Some.ray.row c.in-Some.ray.zeros made in
-    built_many c.args.cols c.args.equations.now c.args.rows.now c.args.front c.requires.within c.args.rays.now.rows.items c.args.rays.now.zeros.rows c.requires.table c.requires.equation_cols c.requires.row_cols c.requires.spanned (SeenPairs c.loop-i.i more.start) c.push.new.self.items c.push-in-loop-k.new.self.rows (rw (c.in_ok-push.ensures.items, c.in-Ok.ensures.ok) more.built) (omega arith)
+    (c.loop-i.i, more.start, (c.push-in-loop-k.new.self.rows, rw (c.in_ok-push.ensures.items, c.in-Ok.ensures.ok) more.built))
 
 pub returns-clause-few : goal.returns-clause-few
-returns-clause-few c = c.loop-i.invariant.few
-
-pub returns-clause-form : goal.returns-clause-form
-returns-clause-form c = built_form c.args.cols c.args.equations.now c.args.rows.now c.args.front c.args.rays.now.rows.items (SeenPairs c.loop-i.i 0) c.loop-i.next.items c.loop-i.zeros.rows c.loop-i.invariant.built
+returns-clause-few c = rw (sym c.count_kept-kept.ensures) c.loop-i.invariant.few

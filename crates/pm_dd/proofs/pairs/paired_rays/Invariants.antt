@@ -1,14 +1,14 @@
 use Rattle.pm_dd.proofs.Negatives.{IsRowBuilt}
 use Rattle.pm_dd.proofs.pairs.paired_rays.Given as goal
 use Rattle.pm_dd.specs.Building.{IsBuilt, SeenPairs}
-use Rattle.std.proofs.Common.{drop, length, ◌≡◌, ◌≤◌}
+use Rattle.std.proofs.Common.{drop, length, ◌+◌, ◌≡◌, ◌≤◌}
 use Rattle.pm_limits.specs.Limits.{most_rows}
 
 abbrev pub invariant-loop-i : goal.invariant-loop-i
 invariant-loop-i l = record {
   both_len : length l.both ≡ length l.rows;
   row_len : l.zeros.row_len ≡ length l.rows;
-  few : length l.next.items ≤ most_rows;
+  few : l.kept + length l.next.items ≤ most_rows;
   built : IsBuilt l.cols l.equations l.rows l.front l.rays.rows.items (SeenPairs l.i 0) l.next.items l.zeros.rows;
 }
 
@@ -16,6 +16,6 @@ abbrev pub invariant-loop-k : goal.invariant-loop-k
 invariant-loop-k l = record {
   both_len : length l.both ≡ length l.rows;
   row_len : l.zeros.row_len ≡ length l.rows;
-  few : length l.next.items ≤ most_rows;
+  few : l.kept + length l.next.items ≤ most_rows;
   built : IsRowBuilt l.cols l.equations l.rows l.front l.rays.rows.items l.values l.i (drop l.k l.negatives.items) l.next.items l.zeros.rows;
 }

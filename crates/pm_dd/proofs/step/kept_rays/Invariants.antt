@@ -1,10 +1,11 @@
+use Rattle.pm_dd.proofs.Moving.{AreMoved}
 use Rattle.pm_dd.proofs.step.kept_rays.Given as goal
-use Rattle.pm_dd.specs.Building.{IsBuilt, SeenKept}
-use Rattle.std.proofs.Common.{length, ◌≡◌, ◌≤◌}
+use Rattle.pm_dd.specs.Building.{kept_count}
+use Rattle.std.proofs.Common.{length, take, ◌≡◌}
 
 abbrev pub invariant-loop-i : goal.invariant-loop-i
 invariant-loop-i l = record {
   row_len : l.zeros.row_len ≡ length l.rows;
-  few : length l.made.items ≤ l.i;
-  built : IsBuilt l.cols l.equations l.rows l.front l.rays.rows.items (SeenKept l.i) l.made.items l.zeros.rows;
+  count : l.kept ≡ kept_count (take l.i l.values);
+  moved : AreMoved l.cols l.equations l.rows l.front l.fn.rays.rows.items l.fn.rays.zeros.rows l.i l.kept l.made.items l.zeros.rows;
 }
