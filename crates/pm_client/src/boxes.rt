@@ -47,14 +47,23 @@ fn place_of(clients: &[Box<dyn Client>], kind: Kind) -> Option<usize>
     None
 }
 
-/// Whether some client is of the kind. Looked at first is the client at this place, which is a guess.
-pub fn has_client(clients: &[Box<dyn Client>], kind: Kind, place: usize) -> bool
+/// Whether some client is of the kind. Looked at first is the client at the place, which is a guess, and becomes the
+/// place after the client that was found.
+pub fn has_client(clients: &[Box<dyn Client>], kind: Kind, place: &mut usize) -> bool
     ensures { result ≡ has_client kind (map tally clients.now) }
 {
-    if place < clients.len() && kind_of_box(&clients[place]) == kind {
+    let at = *place;
+    if at < clients.len() && kind_of_box(&clients[at]) == kind {
+        *place = at + 1;
         return true;
     }
-    place_of(clients, kind).is_some()
+    match place_of(clients, kind) {
+        Some(found) => {
+            *place = found + 1;
+            true
+        }
+        None => false,
+    }
 }
 
 // Runs the client at a place.

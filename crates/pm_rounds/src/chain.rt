@@ -139,12 +139,23 @@ fn is_excluded(excluded: &[Excluded], id: RuleId, place: Option<u8>) -> bool
     excluded.iter().any(|e| excludes(e, id, place))
 }
 
+// Whether the rule of this number was excluded there. Where none was, its place is not looked for.
+fn is_excluded_on(object: &Object, sub: Option<u8>, id: RuleId, rule: &Rule) -> bool
+    ensures { result ≡ is_excluded object.now.state sub id rule.now }
+{
+    let excluded = object.excluded();
+    if excluded.is_empty() {
+        return false;
+    }
+    is_excluded(excluded, id, place_of_rule(sub, rule))
+}
+
 // Whether the rule of this number was excluded there, or a precondition of it is held with the wrong value.
 fn is_ruled_out(object: &Object, sub: Option<u8>, id: RuleId, rule: &Rule) -> bool
     ensures { result ≡ (is_excluded object.now.state sub id rule.now
         || some_wrong rule.now (read_at sub object.now.state.held)) }
 {
-    is_excluded(object.excluded(), id, place_of_rule(sub, rule)) || some_is_wrong(rule, object, sub)
+    is_excluded_on(object, sub, id, rule) || some_is_wrong(rule, object, sub)
 }
 
 // Whether the object bars the rule of this number there, whatever the clients.
@@ -156,17 +167,18 @@ fn is_barred_by(object: &Object, sub: Option<u8>, id: RuleId, rule: &Rule) -> bo
     is_ruled_out(object, sub, id, rule) || object.is_disabled(rule.label.as_str())
 }
 
-// Whether the rule of this number is barred there.
+// Whether the rule of this number is barred there. Its client is looked for at the place first.
 fn is_barred_on(
     clients: &[Box<dyn Client>],
     object: &Object,
     sub: Option<u8>,
     id: RuleId,
     rule: &Rule,
+    place: &mut usize,
 ) -> bool
     ensures { result ≡ is_barred_on (map tally clients.now) object.now.state sub id rule.now }
 {
-    is_barred_by(object, sub, id, rule) || !has_client(clients, rule.kind, usize::from(id.0))
+    is_barred_by(object, sub, id, rule) || !has_client(clients, rule.kind, place)
 }
 
 /// The rules of the book that are barred on the object, for who asks this program, if one is asked.
@@ -182,9 +194,10 @@ pub fn barred_rules(
         (map tally clients.now) object.now.state sub v.items) }
 {
     let mut barred = Vec::new(alloc);
+    let mut place = 0;
     for (i, rule) in rules.iter().enumerate() {
         let id = RuleId(i as u16);
-        if is_barred_on(clients, object, sub, id, rule) {
+        if is_barred_on(clients, object, sub, id, rule, &mut place) {
             barred.push(id)?;
         }
     }

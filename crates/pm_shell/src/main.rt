@@ -31,6 +31,7 @@ use std::alloc::{AllocError, Global};
 use std::env;
 use std::env::{Args, FillError};
 use std::io::ErrorKind;
+use std::mem::forget;
 use std::process::ExitCode;
 use std::rt::Env;
 
@@ -128,5 +129,7 @@ fn main(rt: HostRuntime) -> ExitCode {
         ),
         Err(status) => status,
     };
+    // They are given back when the process ends, and not one by one.
+    forget(clients);
     ExitCode::from(status.number())
 }

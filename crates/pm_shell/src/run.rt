@@ -16,6 +16,7 @@ use pm_rules::Book;
 use pm_store::{Sink, Source, Store};
 use pm_words::{Words, WordsFail, read_words};
 use std::alloc::Global;
+use std::mem::forget;
 
 /// Answers the lines of a script by the rules of a book, from no object on.
 fn run_script<S: Source, K: Sink, F: Store>(
@@ -48,7 +49,10 @@ fn run_script<S: Source, K: Sink, F: Store>(
     ensures store_count { F.faults store.old ≤ F.faults store.new }
 {
     let mut session = Session::new(alloc, book);
-    answer_lines(alloc, &mut session, clients, source, trace, sink, store)
+    let answered = answer_lines(alloc, &mut session, clients, source, trace, sink, store);
+    // What it holds is given back when the process ends, and not piece by piece.
+    forget(session);
+    answered
 }
 
 /// Answers the lines of a text.
