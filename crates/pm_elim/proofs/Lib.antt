@@ -18,4 +18,5 @@ pub mod NullLaws
 pub mod CountLaws
 pub mod SignLaws
 pub mod DualLaws
+pub mod DualTails
 pub mod EnlargingLaws

@@ -63,7 +63,7 @@ module _ (k n h : ℕ) (E : List Row) (Q : List ℕ) (e : IsEchelonBasis (k + n)
   pub tail_row : (i : ℕ) → i < length (tails k h E) → row_at (tails k h E) i ≡ drop k (row_at E (h + i))
   tail_row i l = get_or-map (drop k) (drop h E) i [] [] (rw length-map at l) ∙ ap (drop k) (get_or-drop h E i [])
 
-  tail_column : (i : ℕ) → i < length (tails k h E) → column (tail_columns k h Q) i ≡ column Q (h + i) - k
+  pub tail_column : (i : ℕ) → i < length (tails k h E) → column (tail_columns k h Q) i ≡ column Q (h + i) - k
   tail_column i l =
       get_or-map (λ q. q - k) (drop h Q) i 0 0 (let c = tail_count in let a = e.as_many in let d = length-drop h Q in omega arith)
       ∙ ap (λ q. q - k) (get_or-drop h Q i 0)

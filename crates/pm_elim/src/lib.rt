@@ -22,6 +22,7 @@ mod rows;
 mod sign;
 mod step;
 mod wide_bases;
+mod wide_duals;
 mod wide_modulo;
 mod wide_nulls;
 mod wide_rounds;

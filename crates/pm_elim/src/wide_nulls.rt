@@ -11,6 +11,7 @@ use crate::duals::{copies_without, new_place, oriented};
 use crate::extended::extended;
 use crate::nulls::tails_of;
 use crate::wide_bases::wide_basis;
+use crate::wide_duals::duals_at_once;
 use crate::wide_rounds::WideFail;
 use pm_vector::Ints;
 use std::alloc::Global;
@@ -64,8 +65,8 @@ fn wide_dual_row(
     Ok(oriented(found, &rows[j]))
 }
 
-/// The dual basis of the rows.
-pub fn wide_dual_basis(alloc: Global, rows: &[Ints], cols: usize) -> Result<Vec<Ints>, WideFail>
+/// The dual basis of the rows, by an elimination for each of them.
+fn duals_one_by_one(alloc: Global, rows: &[Ints], cols: usize) -> Result<Vec<Ints>, WideFail>
     requires columns { HasCols cols rows.now }
     requires few_rows { length rows.now < 2 ^ 32 }
     requires few_columns { cols < 2 ^ 31 }
@@ -78,4 +79,18 @@ pub fn wide_dual_basis(alloc: Global, rows: &[Ints], cols: usize) -> Result<Vec<
         duals.push(dual)?;
     }
     Ok(duals)
+}
+
+/// The dual basis of the rows. It is found by one elimination, or by one for each row where the one leaves the range.
+pub fn wide_dual_basis(alloc: Global, rows: &[Ints], cols: usize) -> Result<Vec<Ints>, WideFail>
+    requires columns { HasCols cols rows.now }
+    requires few_rows { length rows.now < 2 ^ 32 }
+    requires few_columns { cols < 2 ^ 31 }
+    ensures { IfOk result (λ v. IsDualBasis cols rows.now v.items) }
+{
+    match duals_at_once(alloc, rows, cols) {
+        Ok(duals) => Ok(duals),
+        Err(WideFail::Lost) => duals_one_by_one(alloc, rows, cols),
+        Err(WideFail::Memory) => Err(WideFail::Memory),
+    }
 }

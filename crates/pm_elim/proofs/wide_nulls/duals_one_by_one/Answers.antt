@@ -1,5 +1,5 @@
 use Rattle.pm_elim.proofs.DualLaws.{duals_more}
-use Rattle.pm_elim.proofs.wide_nulls.wide_dual_basis.Goals as goal
+use Rattle.pm_elim.proofs.wide_nulls.duals_one_by_one.Goals as goal
 use Rattle.std.proofs.Common.{ap, arith, length, ◌+◌, ◌≡◌, ◌∙◌, ℕ}
 use Rattle.std.proofs.lemmas.List.{length_push}
 

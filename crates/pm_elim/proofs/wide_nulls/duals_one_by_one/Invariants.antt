@@ -1,5 +1,5 @@
 use Rattle.pm_vector.specs.Bases.{row_at}
-use Rattle.pm_elim.proofs.wide_nulls.wide_dual_basis.Given as goal
+use Rattle.pm_elim.proofs.wide_nulls.duals_one_by_one.Given as goal
 use Rattle.pm_elim.specs.Duals.{IsDualRow}
 use Rattle.std.proofs.Common.{length, ◌<◌, ◌≡◌, ℕ}
 
