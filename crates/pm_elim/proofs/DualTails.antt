@@ -90,7 +90,9 @@ module _ (n : ℕ) (rows X E : List Row) (Q : List ℕ) (cols : HasCols n rows) 
     inside = span_to b.span (span_at j (in_basis j jl))
 
     product : (i : ℕ) → i < length rows → dot (row_at rows i) tail ≡ entry (row_at E j) (column Q i)
-    product i l = sym (products_of_span n rows X cols x (row_at E j) inside i l) ∙ ap (entry (row_at E j)) (sym (first i l).1)
+    product i l =
+        sym (products_of_span n rows X cols x (row_at E j) inside i l)
+        ∙ ap (entry (row_at E j)) (sym (first i l).1)
 
     other_product : (i : ℕ) → i < length rows → ¬ (i ≡ j) → dot (row_at rows i) tail ≡ pos 0
     other_product i l ne = product i l ∙ b.echelon.reduced j i (in_basis j jl) (in_basis i l) (λ s. ne (sym s))
@@ -110,9 +112,11 @@ module _ (n : ℕ) (rows X E : List Row) (Q : List ℕ) (cols : HasCols n rows) 
         let a = b.echelon.as_many in
         let count = simp (length-map, length-drop) at l in
         let within : length rows + t < length E = omega arith in
-        let u = late (length rows) n (length rows) E Q b.echelon enough lower upper (length rows + t) (omega arith) within in
+        let u = late (length rows) n (length rows) E Q b.echelon enough lower upper (length rows + t) (omega arith)
+        within in
         let c : length rows + (column Q (length rows + t) - length rows) ≡ column Q (length rows + t) = omega arith in
-        let here = tail_column (length rows) n (length rows) E Q b.echelon enough lower upper t (simp (length-map, length-drop) (omega arith)) in
+        let more : t < length rest = simp (length-map, length-drop) (omega arith) in
+        let here = tail_column (length rows) n (length rows) E Q b.echelon enough lower upper t more in
         ap (entry tail) here
         ∙ get_or-drop (length rows) (row_at E j) (column Q (length rows + t) - length rows) (pos 0)
         ∙ ap (entry (row_at E j)) c

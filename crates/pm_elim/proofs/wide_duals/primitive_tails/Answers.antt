@@ -19,7 +19,8 @@ pub loop-i-preserved : goal.loop-i-preserved
 loop-i-preserved c =
     let so_far = c.loop-i.invariant.as_many in
     let within : c.loop-i.i < length c.args.rows.now = omega arith in
-    let here : c.index-rows-i.result ≡ row_at c.args.rows.now c.loop-i.i = get_or_read c.args.rows.now c.loop-i.i c.index-rows-i.result within c.index-rows-i.is _ in
+    let read = get_or_read c.args.rows.now c.loop-i.i c.index-rows-i.result within c.index-rows-i.is [] in
+    let here : c.index-rows-i.result ≡ row_at c.args.rows.now c.loop-i.i = read in
     rw c.in_ok-push.ensures.items (record {
       as_many = length_push c.loop-i.made.items c.primitive.new.v ∙ ap (λ (k : ℕ). k + 1) so_far;
       each = tails_more c.args.from c.args.rows.now c.loop-i.made.items c.primitive.new.v c.loop-i.i so_far
