@@ -1,6 +1,6 @@
 -- Rank and nullity: how many rows the echelon basis of a null space has.
 use Rattle.pm_vector.specs.Cones.{InSpan, IsIndependent}
-use Rattle.pm_vector.specs.Rows.{Row}
+use Rattle.pm_vector.specs.Rows.{HasCols, Row}
 use Rattle.pm_vector.proofs.Columns.{basis_is_independent, column_found}
 use Rattle.pm_vector.proofs.Rank.{independent_are_few}
 use Rattle.pm_vector.proofs.Spans.{span_at, span_from, span_to}
@@ -18,9 +18,9 @@ use Rattle.std.proofs.lemmas.List.{length-drop, length-map}
 use Rattle.std.specs.Prelude.{List, length, ℕ, ◌+◌, ◌-◌, ◌<◌, ◌≡◌, ◌≤◌}
 
 -- ---- the extended list
-module _ (n : ℕ) (B : List Row) (P : List ℕ) (X E : List Row) (Q : List ℕ) (e : IsEchelonBasis n B P) (x : IsExtended n B X) (b : IsBasisOf (length B + n) X E Q) where
+module _ (n : ℕ) (B X E : List Row) (Q : List ℕ) (cols : HasCols n B) (x : IsExtended n B X) (b : IsBasisOf (length B + n) X E Q) where
   extended_independent : IsIndependent X
-  extended_independent d z i l = let a = x.as_many in sym (combination_last n B X e.cols x d i (omega arith)) ∙ z (length B + i)
+  extended_independent d z i l = let a = x.as_many in sym (combination_last n B X cols x d i (omega arith)) ∙ z (length B + i)
 
   whole_count : length E ≡ n
   whole_count =
@@ -29,6 +29,22 @@ module _ (n : ℕ) (B : List Row) (P : List ℕ) (X E : List Row) (Q : List ℕ)
       let a = x.as_many in
       omega arith
 
+  -- the tails are as many as the columns less the rows, or more
+  pub tails_at_least : (T : List Row) (R : List ℕ) → AreTails (length B) E Q T R → n ≤ length T + length B
+  tails_at_least T R t =
+      let whole = whole_count in
+      let within = t.within in
+      let many = ap length t.rows in
+      let counted : length T ≡ length E - t.h = many ∙ (simp (length-map, length-drop)) in
+      elim (cases_lt 0 t.h) [
+        | inl some ↦
+            let p = pivot_at_least (length B + n) E Q b.echelon (t.h - 1) (omega arith) in
+            let q = t.before (t.h - 1) (omega arith) in
+            omega arith
+        | inr none ↦ omega arith
+      ]
+
+module _ (n : ℕ) (B : List Row) (P : List ℕ) (X E : List Row) (Q : List ℕ) (e : IsEchelonBasis n B P) (x : IsExtended n B X) (b : IsBasisOf (length B + n) X E Q) where
   -- each of the first columns is a pivot
   first_pivot : (l : ℕ) → l < length B → (i : ℕ) × (i < length E) × (column Q i ≡ l)
   first_pivot l ll =
@@ -61,7 +77,7 @@ module _ (n : ℕ) (B : List Row) (P : List ℕ) (X E : List Row) (Q : List ℕ)
 
 pub null_count : (n : ℕ) (B : List Row) (P : List ℕ) (E T : List Row) (Q R : List ℕ) → IsEchelonBasis n B P → IsExtendedBasis n B E Q → AreTails (length B) E Q T R → length T + length B ≡ n
 null_count n B P E T Q R e x t =
-    let whole = whole_count n B P x.listed E Q e x.extended x.basis in
+    let whole = whole_count n B x.listed E Q e.cols x.extended x.basis in
     let front = front_count n B P x.listed E Q e x.extended x.basis t.h t.within t.before t.first in
     let many = ap length t.rows in
     let within = t.within in

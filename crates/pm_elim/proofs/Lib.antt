@@ -1,4 +1,5 @@
 pub mod Options
+pub mod Independent
 pub mod FactorLaws
 pub mod StepLaws
 pub mod ReductionLaws
@@ -14,9 +15,12 @@ pub mod DotLaws
 pub mod ExtendedLaws
 pub mod TailLaws
 pub mod SoFar
+pub mod LostLaws
 pub mod NullLaws
 pub mod CountLaws
 pub mod SignLaws
 pub mod DualLaws
 pub mod DualTails
+pub mod DualCounts
+pub mod LostExamples
 pub mod EnlargingLaws

@@ -5,6 +5,8 @@ pub mod Rounds
 pub mod Evidence
 pub mod NullSpaces
 pub mod Duals
+pub mod Lost
+pub mod LostExamples
 pub mod Refusals
 pub mod ExtendedLists
 pub mod Totals

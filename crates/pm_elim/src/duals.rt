@@ -14,6 +14,8 @@ use crate::evidence::{DualFail, ElimFail, ElimList};
 use crate::nulls::null_of;
 use crate::rows::copies;
 use crate::sign::is_negative_product;
+use crate::wide_duals::duals_at_once;
+use crate::wide_rounds::WideFail;
 use pm_vector::{Ints, negate};
 use std::alloc::{AllocError, Global};
 
@@ -100,10 +102,47 @@ fn dual_row(
     Ok(oriented(found, &rows[j]))
 }
 
+/// The sum of the sizes of the entries, at most 2^128 - 1.
+fn size_of(row: &Ints) -> u128 {
+    let mut size: u128 = 0;
+    for i in 0..row.len() {
+        size = size.saturating_add(row.get(i).unsigned_abs());
+    }
+    size
+}
+
+/// Whether the product of the sizes has at most 60 bits. No minor of the rows exceeds it, so that no step of an
+/// elimination of theirs leaves the range.
+fn are_small(rows: &[Ints]) -> bool {
+    let mut product: u128 = 1;
+    for row in rows {
+        product = product.saturating_mul(size_of(row).max(1));
+    }
+    product < 1 << 60
+}
+
+/// The dual basis of the rows, from one elimination for all. None where the rows are not small, or it finds none.
+fn small_duals(alloc: Global, rows: &[Ints], cols: usize) -> Result<Option<Vec<Ints>>, AllocError>
+    requires columns { HasCols cols rows.now }
+    requires few_rows { length rows.now < 2 ^ 32 }
+    requires few_columns { cols < 2 ^ 31 }
+    ensures { IfOk result (λ o. IfSome o (λ v. IsDualBasis cols rows.now v.items)) }
+{
+    if !are_small(rows) {
+        return Ok(None);
+    }
+    match duals_at_once(alloc, rows, cols) {
+        Ok(duals) => Ok(Some(duals)),
+        Err(WideFail::Lost) => Ok(None),
+        Err(WideFail::Memory) => Err(AllocError),
+    }
+}
+
 /// The dual basis of independent rows with `cols` entries each: for each of them the primitive row that has product 0
 /// with the others, a positive product with it, and 0 in the pivot columns of the echelon basis of the null space of
 /// all rows.
-/// It is found in the null space of the rows without the one that it is for.
+/// Where the rows are small, all are found by one elimination; else each in the null space of the rows without the one
+/// that it is for.
 /// `Dependent` only where the rows are dependent. `Wide` only with evidence on the rows.
 pub fn dual_basis(alloc: Global, rows: &[Ints], cols: usize) -> Result<Vec<Ints>, DualFail>
     requires columns { HasCols cols rows.now }
@@ -117,6 +156,9 @@ pub fn dual_basis(alloc: Global, rows: &[Ints], cols: usize) -> Result<Vec<Ints>
     let basis = basis_of_rows(alloc, rows, cols)?;
     if basis.rows.len() < rows.len() {
         return Err(DualFail::Dependent);
+    }
+    if let Some(duals) = small_duals(alloc, rows, cols)? {
+        return Ok(duals);
     }
     let null = null_of(alloc, &basis, cols, ElimList::Extended)?;
     let mut duals = Vec::new(alloc);

@@ -7,9 +7,10 @@ ghost use Rattle.pm_vector.specs.Bases.{IsRank, column};
 ghost use Rattle.pm_elim.specs.Duals.{IfDependent, IfDualWide, IsDualBasis};
 ghost use Rattle.pm_elim.specs.Enlarging.{MarkEnlarging};
 ghost use Rattle.pm_elim.specs.Evidence.{IfWide, IsBasisOf, IsEvidence, NoEvidence};
+ghost use Rattle.pm_elim.specs.Lost.{HasNoWideDuals, IsLost, IsLostOnExtended, IsLostOnNext};
 ghost use Rattle.pm_elim.specs.NullSpaces.{IsNullBasis};
 ghost use Rattle.pm_elim.specs.Steps.{ReducedBy, SameDirectionModulo};
-ghost use Rattle.std.specs.Prelude.{IfErr, IfOk, List, OnOk, [], false, length, pos, ◌++◌, ◌<◌, ◌^◌, ◌∷◌, ◌≡◌, ◌⊎◌, ℕ};
+ghost use Rattle.std.specs.Prelude.{IfErr, IfOk, List, OnOk, [], false, length, pos, ◌++◌, ◌<◌, ◌^◌, ◌∷◌, ◌≡◌, ◌⊎◌, true, ℕ};
 
 use crate::basis::Echelon;
 use crate::duals::dual_basis;
@@ -21,6 +22,7 @@ use crate::nulls::null_space;
 use crate::wide_bases::{wide_echelon, wide_enlarging, wide_rank};
 use crate::wide_modulo::wide_reduced;
 use crate::wide_nulls::{wide_dual_basis, wide_null_space};
+use crate::wide_rounds::WideFail;
 use pm_vector::Ints;
 use std::alloc::Global;
 
@@ -36,6 +38,7 @@ pub fn echelon_by(
     requires few_columns { cols < 2 ^ 31 }
     ensures basis { IfOk result (λ b. IsBasisOf cols rows.now b.rows b.pivots) }
     ensures wide { IfErr result (λ f. IfWide f (λ e. IsEvidence cols rows.now e)) }
+    ensures lost { wide ≡ true → IfErr result (λ f. IfWide f (λ _. IsLost cols rows.now)) }
 {
     let fail = match echelon(alloc, rows, cols) {
         Ok(basis) => return Ok(basis),
@@ -46,7 +49,8 @@ pub fn echelon_by(
     }
     match wide_echelon(alloc, rows, cols) {
         Ok(basis) => Ok(basis),
-        Err(_) => Err(fail),
+        Err(WideFail::Lost) => Err(fail),
+        Err(WideFail::Memory) => Err(ElimFail::Memory),
     }
 }
 
@@ -59,6 +63,7 @@ pub fn rank_by(alloc: Global, rows: &[Ints], cols: usize, wide: bool) -> Result<
     ensures never_wide { wide ≡ false → OnOk result (NoEvidence cols rows.now ElimList.Rows) }
     ensures wide { IfErr result (λ f. IfWide f (λ e. IsEvidence cols rows.now e)) }
     ensures list { IfErr result (λ f. IfWide f (λ e. e.list ≡ ElimList.Rows)) }
+    ensures lost { wide ≡ true → IfErr result (λ f. IfWide f (λ _. IsLost cols rows.now)) }
 {
     let fail = match rank(alloc, rows, cols) {
         Ok(k) => return Ok(k),
@@ -69,7 +74,8 @@ pub fn rank_by(alloc: Global, rows: &[Ints], cols: usize, wide: bool) -> Result<
     }
     match wide_rank(alloc, rows, cols) {
         Ok(k) => Ok(k),
-        Err(_) => Err(fail),
+        Err(WideFail::Lost) => Err(fail),
+        Err(WideFail::Memory) => Err(ElimFail::Memory),
     }
 }
 
@@ -86,6 +92,7 @@ pub fn enlarging_by(
     ensures marks { IfOk result (λ m. MarkEnlarging rows.now m.items) }
     ensures wide { IfErr result (λ f. IfWide f (λ e. IsEvidence cols rows.now e)) }
     ensures list { IfErr result (λ f. IfWide f (λ e. e.list ≡ ElimList.Rows)) }
+    ensures lost { wide ≡ true → IfErr result (λ f. IfWide f (λ _. IsLost cols rows.now)) }
 {
     let fail = match enlarging(alloc, rows, cols) {
         Ok(marks) => return Ok(marks),
@@ -96,7 +103,8 @@ pub fn enlarging_by(
     }
     match wide_enlarging(alloc, rows, cols) {
         Ok(marks) => Ok(marks),
-        Err(_) => Err(fail),
+        Err(WideFail::Lost) => Err(fail),
+        Err(WideFail::Memory) => Err(ElimFail::Memory),
     }
 }
 
@@ -116,6 +124,7 @@ pub fn null_space_by(
     ensures wide { IfErr result (λ f. IfWide f (λ e. IsEvidence cols rows.now e)) }
     ensures list { IfErr result (λ f.
         IfWide f (λ e. (e.list ≡ ElimList.Rows) ⊎ (e.list ≡ ElimList.Extended))) }
+    ensures lost { wide ≡ true → IfErr result (λ f. IfWide f (λ _. IsLostOnExtended cols rows.now)) }
 {
     let fail = match null_space(alloc, rows, cols) {
         Ok(null) => return Ok(null),
@@ -126,7 +135,8 @@ pub fn null_space_by(
     }
     match wide_null_space(alloc, rows, cols) {
         Ok(null) => Ok(null),
-        Err(_) => Err(fail),
+        Err(WideFail::Lost) => Err(fail),
+        Err(WideFail::Memory) => Err(ElimFail::Memory),
     }
 }
 
@@ -143,6 +153,7 @@ pub fn dual_basis_by(
     ensures dual { IfOk result (λ v. IsDualBasis cols rows.now v.items) }
     ensures dependent { IfErr result (λ f. IfDependent f (¬ (IsIndependent rows.now))) }
     ensures wide { IfErr result (λ f. IfDualWide f (λ e. IsEvidence cols rows.now e)) }
+    ensures lost { wide ≡ true → IfErr result (λ f. IfDualWide f (λ _. HasNoWideDuals cols rows.now)) }
 {
     let fail = match dual_basis(alloc, rows, cols) {
         Ok(duals) => return Ok(duals),
@@ -153,7 +164,8 @@ pub fn dual_basis_by(
     }
     match wide_dual_basis(alloc, rows, cols) {
         Ok(duals) => Ok(duals),
-        Err(_) => Err(fail),
+        Err(WideFail::Lost) => Err(fail),
+        Err(WideFail::Memory) => Err(DualFail::Memory),
     }
 }
 
@@ -168,6 +180,8 @@ pub fn reduced_by(alloc: Global, basis: &Echelon, row: &Ints, wide: bool) -> Res
     ensures direction { IfOk result (λ r. SameDirectionModulo basis.now.rows row.now r) }
     ensures wide { IfErr result (λ f.
         IfWide f (λ e. IsEvidence (length row.now) (basis.now.rows ++ row.now ∷ []) e)) }
+    ensures lost { wide ≡ true → IfErr result (λ f.
+        IfWide f (λ _. IsLostOnNext basis.now.rows basis.now.pivots row.now)) }
 {
     let mut rest = row.copy(alloc)?;
     let fail = match reduce(alloc, basis, &mut rest) {
@@ -179,6 +193,7 @@ pub fn reduced_by(alloc: Global, basis: &Echelon, row: &Ints, wide: bool) -> Res
     }
     match wide_reduced(alloc, basis, row) {
         Ok(rest) => Ok(rest),
-        Err(_) => Err(fail),
+        Err(WideFail::Lost) => Err(fail),
+        Err(WideFail::Memory) => Err(ElimFail::Memory),
     }
 }

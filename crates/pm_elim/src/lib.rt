@@ -3,6 +3,8 @@
 //! of faces, properties and objects.
 #![tactic(auto)]
 
+ghost use Rattle.pm_elim.specs.LostExamples.{LostEliminationsAreRead, LostStepsAreRead};
+
 mod basis;
 mod duals;
 mod either_way;
@@ -41,3 +43,10 @@ pub use wide_bases::{wide_echelon, wide_enlarging, wide_rank};
 pub use wide_modulo::wide_reduced;
 pub use wide_nulls::{wide_dual_basis, wide_null_space};
 pub use wide_rounds::WideFail;
+
+/// Which steps of an elimination by wide numbers are lost, and which eliminations: one that numbers of the range
+/// refuse is not, since its rows are in the range when they are made primitive.
+pub fn example_lost()
+    ensures steps { LostStepsAreRead }
+    ensures eliminations { LostEliminationsAreRead }
+{}

@@ -4,7 +4,8 @@ ghost use Rattle.pm_vector.specs.Rows.{HasCols};
 ghost use Rattle.pm_vector.specs.Bases.{IsRank};
 ghost use Rattle.pm_elim.specs.Enlarging.{MarkEnlarging};
 ghost use Rattle.pm_elim.specs.Evidence.{IsBasisOf};
-ghost use Rattle.std.specs.Prelude.{IfOk};
+ghost use Rattle.pm_elim.specs.Lost.{IfLost, IsLost};
+ghost use Rattle.std.specs.Prelude.{IfErr, IfOk};
 
 use crate::basis::{Echelon, Growing};
 use crate::wide_rounds::{WideFail, taken_in};
@@ -14,7 +15,8 @@ use std::alloc::Global;
 /// The echelon basis of the rows.
 pub(crate) fn wide_basis(alloc: Global, rows: &[Ints], cols: usize) -> Result<Growing, WideFail>
     requires { HasCols cols rows.now }
-    ensures { IfOk result (λ b. IsBasisOf cols rows.now b.rows.items b.pivots.items) }
+    ensures basis { IfOk result (λ b. IsBasisOf cols rows.now b.rows.items b.pivots.items) }
+    ensures lost { IfErr result (λ f. IfLost f (IsLost cols rows.now)) }
 {
     let mut basis = Growing {
         rows: Vec::new(alloc),
@@ -29,7 +31,8 @@ pub(crate) fn wide_basis(alloc: Global, rows: &[Ints], cols: usize) -> Result<Gr
 /// The echelon basis of rows with `cols` entries each.
 pub fn wide_echelon(alloc: Global, rows: &[Ints], cols: usize) -> Result<Echelon, WideFail>
     requires { HasCols cols rows.now }
-    ensures { IfOk result (λ b. IsBasisOf cols rows.now b.rows b.pivots) }
+    ensures basis { IfOk result (λ b. IsBasisOf cols rows.now b.rows b.pivots) }
+    ensures lost { IfErr result (λ f. IfLost f (IsLost cols rows.now)) }
 {
     let basis = wide_basis(alloc, rows, cols)?;
     Ok(Echelon {
@@ -41,7 +44,8 @@ pub fn wide_echelon(alloc: Global, rows: &[Ints], cols: usize) -> Result<Echelon
 /// The rank of rows with `cols` entries each.
 pub fn wide_rank(alloc: Global, rows: &[Ints], cols: usize) -> Result<usize, WideFail>
     requires { HasCols cols rows.now }
-    ensures { IfOk result (λ k. IsRank rows.now k) }
+    ensures rank { IfOk result (λ k. IsRank rows.now k) }
+    ensures lost { IfErr result (λ f. IfLost f (IsLost cols rows.now)) }
 {
     let basis = wide_basis(alloc, rows, cols)?;
     Ok(basis.rows.len())
@@ -50,7 +54,8 @@ pub fn wide_rank(alloc: Global, rows: &[Ints], cols: usize) -> Result<usize, Wid
 /// Marks the rows that enlarge the span of those before them.
 pub fn wide_enlarging(alloc: Global, rows: &[Ints], cols: usize) -> Result<Vec<bool>, WideFail>
     requires { HasCols cols rows.now }
-    ensures { IfOk result (λ m. MarkEnlarging rows.now m.items) }
+    ensures marks { IfOk result (λ m. MarkEnlarging rows.now m.items) }
+    ensures lost { IfErr result (λ f. IfLost f (IsLost cols rows.now)) }
 {
     let mut basis = Growing {
         rows: Vec::new(alloc),

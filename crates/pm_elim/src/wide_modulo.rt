@@ -2,8 +2,9 @@
 
 ghost use Rattle.pm_vector.specs.Rows.{HasCols, entry};
 ghost use Rattle.pm_vector.specs.Bases.{column};
+ghost use Rattle.pm_elim.specs.Lost.{IfLost, IsLostOnNext};
 ghost use Rattle.pm_elim.specs.Steps.{ReducedBy, SameDirectionModulo};
-ghost use Rattle.std.specs.Prelude.{IfOk, length, pos, ◌<◌, ◌≡◌, ℕ};
+ghost use Rattle.std.specs.Prelude.{IfErr, IfOk, length, pos, ◌<◌, ◌≡◌, ℕ};
 
 use crate::basis::Echelon;
 use crate::wide_rounds::{WideFail, reduced_in_turn};
@@ -18,6 +19,8 @@ pub fn wide_reduced(alloc: Global, basis: &Echelon, row: &Ints) -> Result<Ints, 
     ensures zero { IfOk result (λ r. (i : ℕ) → i < length basis.now.rows
         → entry r (column basis.now.pivots i) ≡ pos 0) }
     ensures direction { IfOk result (λ r. SameDirectionModulo basis.now.rows row.now r) }
+    ensures lost { IfErr result (λ f.
+        IfLost f (IsLostOnNext basis.now.rows basis.now.pivots row.now)) }
 {
     let rest = reduced_in_turn(alloc, &basis.rows, &basis.pivots, row)?;
     Ok(rest)

@@ -1,10 +1,12 @@
 // Null spaces and dual rows by wide numbers on the way. A null space is found in the extended list of the rows
 // themselves: on that of their echelon basis the rows on the way are wider.
 
+ghost use Rattle.pm_vector.specs.Cones.{IsIndependent};
 ghost use Rattle.pm_vector.specs.Rows.{HasCols};
 ghost use Rattle.pm_elim.specs.Duals.{IsDualBasis, IsDualRow};
+ghost use Rattle.pm_elim.specs.Lost.{HasNoWideDuals, IfLost, IsLostOnExtended, IsLostWithoutOne};
 ghost use Rattle.pm_elim.specs.NullSpaces.{IsNullBasis};
-ghost use Rattle.std.specs.Prelude.{IfOk, List, length, ◌+◌, ◌<◌, ◌^◌, ℕ};
+ghost use Rattle.std.specs.Prelude.{IfErr, IfOk, List, length, ◌+◌, ◌<◌, ◌^◌, ◌≤◌, ◌⊎◌, ℕ};
 
 use crate::basis::Growing;
 use crate::duals::{copies_without, new_place, oriented};
@@ -22,7 +24,9 @@ fn wide_null(alloc: Global, rows: &[Ints], cols: usize) -> Result<Growing, WideF
     requires columns { HasCols cols rows.now }
     requires few_rows { length rows.now < 2 ^ 32 }
     requires few_columns { cols < 2 ^ 31 }
-    ensures { IfOk result (λ v. IsNullBasis cols rows.now v.rows.items v.pivots.items) }
+    ensures null { IfOk result (λ v. IsNullBasis cols rows.now v.rows.items v.pivots.items) }
+    ensures count { IfOk result (λ v. cols ≤ length v.rows.items + length rows.now) }
+    ensures lost { IfErr result (λ f. IfLost f (IsLostOnExtended cols rows.now)) }
 {
     let listed = extended(alloc, rows, cols)?;
     let whole = wide_basis(alloc, &listed, rows.len() + cols)?;
@@ -35,7 +39,8 @@ pub fn wide_null_space(alloc: Global, rows: &[Ints], cols: usize) -> Result<Vec<
     requires columns { HasCols cols rows.now }
     requires few_rows { length rows.now < 2 ^ 32 }
     requires few_columns { cols < 2 ^ 31 }
-    ensures { IfOk result (λ v. (P : List ℕ) × IsNullBasis cols rows.now v.items P) }
+    ensures null { IfOk result (λ v. (P : List ℕ) × IsNullBasis cols rows.now v.items P) }
+    ensures lost { IfErr result (λ f. IfLost f (IsLostOnExtended cols rows.now)) }
 {
     let null = wide_null(alloc, rows, cols)?;
     Ok(null.rows)
@@ -54,7 +59,9 @@ fn wide_dual_row(
     requires few_columns { cols < 2 ^ 31 }
     requires within { j < length rows.now }
     requires is_null { IsNullBasis cols rows.now null.now.rows.items null.now.pivots.items }
-    ensures { IfOk result (λ x. IsDualRow cols rows.now null.now.pivots.items j x) }
+    ensures dual { IfOk result (λ x. IsDualRow cols rows.now null.now.pivots.items j x) }
+    ensures lost { IfErr result (λ f.
+        IfLost f (¬ (IsIndependent rows.now) ⊎ IsLostWithoutOne cols rows.now)) }
 {
     let other_rows = copies_without(alloc, rows, j)?;
     let mut others = wide_null(alloc, &other_rows, cols)?;
@@ -70,7 +77,8 @@ fn duals_one_by_one(alloc: Global, rows: &[Ints], cols: usize) -> Result<Vec<Int
     requires columns { HasCols cols rows.now }
     requires few_rows { length rows.now < 2 ^ 32 }
     requires few_columns { cols < 2 ^ 31 }
-    ensures { IfOk result (λ v. IsDualBasis cols rows.now v.items) }
+    ensures dual { IfOk result (λ v. IsDualBasis cols rows.now v.items) }
+    ensures lost { IfErr result (λ f. IfLost f (HasNoWideDuals cols rows.now)) }
 {
     let null = wide_null(alloc, rows, cols)?;
     let mut duals = Vec::new(alloc);
@@ -86,7 +94,8 @@ pub fn wide_dual_basis(alloc: Global, rows: &[Ints], cols: usize) -> Result<Vec<
     requires columns { HasCols cols rows.now }
     requires few_rows { length rows.now < 2 ^ 32 }
     requires few_columns { cols < 2 ^ 31 }
-    ensures { IfOk result (λ v. IsDualBasis cols rows.now v.items) }
+    ensures dual { IfOk result (λ v. IsDualBasis cols rows.now v.items) }
+    ensures lost { IfErr result (λ f. IfLost f (HasNoWideDuals cols rows.now)) }
 {
     match duals_at_once(alloc, rows, cols) {
         Ok(duals) => Ok(duals),

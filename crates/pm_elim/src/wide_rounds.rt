@@ -4,9 +4,11 @@ ghost use Rattle.pm_vector.specs.Cones.{InSpan};
 ghost use Rattle.pm_vector.specs.Divisors.{IsPrimitiveOf};
 ghost use Rattle.pm_vector.specs.Rows.{HasCols, difference, entry};
 ghost use Rattle.pm_vector.specs.Bases.{IsEchelonBasis, SameSpan};
+ghost use Rattle.pm_elim.specs.Lost.{IfLost, IsLostOnNext, IsLostOnSome, IsLostRound, PrimitiveIsLost, StepIsLost};
 ghost use Rattle.pm_elim.specs.Rounds.{AllReducedOnce, IsNewRow};
 ghost use Rattle.pm_elim.specs.Steps.{IsReducedOnce, ReducedBy};
-ghost use Rattle.std.specs.Prelude.{IfOk, [], length, pos, vec_len, ◌+◌, ◌++◌, ◌<ℤ◌, ◌<◌, ◌∷◌, ◌≡◌, ◌≤◌};
+ghost use Rattle.pm_elim.specs.declared.wide_rounds.WideFail.TheVariants.{Memory};
+ghost use Rattle.std.specs.Prelude.{IfErr, IfOk, [], length, pos, vec_len, ◌+◌, ◌++◌, ◌<ℤ◌, ◌<◌, ◌∷◌, ◌≡◌, ◌≤◌};
 
 use crate::basis::Growing;
 use crate::pivot::{pivot_of, pivot_row};
@@ -27,12 +29,16 @@ pub enum WideFail {
 }
 
 impl From<AllocError> for WideFail {
+    ghost from_gives = { λ _ e. e ≡ Memory };
+
     fn from(_e: AllocError) -> WideFail {
         WideFail::Memory
     }
 }
 
 impl<T: Drop> From<AllocFailed<T>> for WideFail {
+    ghost from_gives = { λ _ e. e ≡ Memory };
+
     fn from(_e: AllocFailed<T>) -> WideFail {
         WideFail::Memory
     }
@@ -41,7 +47,8 @@ impl<T: Drop> From<AllocFailed<T>> for WideFail {
 /// The primitive row in the direction of p row - q by, by wide numbers.
 fn wide_difference(alloc: Global, p: i128, row: &Ints, q: i128, by: &Ints) -> Result<Ints, WideFail>
     requires { length row.now ≡ length by.now }
-    ensures { IfOk result (λ w. IsPrimitiveOf (difference p row.now q by.now) w) }
+    ensures primitive { IfOk result (λ w. IsPrimitiveOf (difference p row.now q by.now) w) }
+    ensures lost { IfErr result (λ f. IfLost f (PrimitiveIsLost (difference p row.now q by.now))) }
 {
     let mut entries = row.copy(alloc)?.into_vec();
     match combine_primitive(WideInt::of(p), &mut entries, WideInt::of(q), by.as_slice()) {
@@ -59,7 +66,8 @@ fn primitive_difference(
     by: &Ints,
 ) -> Result<Ints, WideFail>
     requires { length row.now ≡ length by.now }
-    ensures { IfOk result (λ w. IsPrimitiveOf (difference p row.now q by.now) w) }
+    ensures primitive { IfOk result (λ w. IsPrimitiveOf (difference p row.now q by.now) w) }
+    ensures lost { IfErr result (λ f. IfLost f (PrimitiveIsLost (difference p row.now q by.now))) }
 {
     let mut made = row.copy(alloc)?;
     match combine(p, &mut made, q, by) {
@@ -76,7 +84,8 @@ fn reduced_once(alloc: Global, row: &Ints, by: &Ints, pivot: usize) -> Result<In
     requires same_length { length row.now ≡ length by.now }
     requires within { pivot < length row.now }
     requires positive { pos 0 <ℤ entry by.now pivot }
-    ensures { IfOk result (λ m. IsReducedOnce row.now by.now pivot m) }
+    ensures reduced { IfOk result (λ m. IsReducedOnce row.now by.now pivot m) }
+    ensures lost { IfErr result (λ f. IfLost f (StepIsLost row.now by.now pivot)) }
 {
     if is_zero_at(row, pivot) {
         return Ok(row.copy(alloc)?);
@@ -93,7 +102,8 @@ pub(crate) fn reduced_in_turn(
     row: &Ints,
 ) -> Result<Ints, WideFail>
     requires { IsEchelonBasis (length row.now) rows.now pivots.now }
-    ensures { IfOk result (λ m. ReducedBy rows.now pivots.now row.now m) }
+    ensures reduced { IfOk result (λ m. ReducedBy rows.now pivots.now row.now m) }
+    ensures lost { IfErr result (λ f. IfLost f (IsLostOnNext rows.now pivots.now row.now)) }
 {
     let mut rest = row.copy(alloc)?;
     for i in 0..rows.len() {
@@ -112,7 +122,8 @@ fn reduced_older(
     requires cols { HasCols (length new.now) rows.now }
     requires within { pivot < length new.now }
     requires positive { pos 0 <ℤ entry new.now pivot }
-    ensures { IfOk result (λ v. AllReducedOnce rows.now new.now pivot v.items) }
+    ensures reduced { IfOk result (λ v. AllReducedOnce rows.now new.now pivot v.items) }
+    ensures lost { IfErr result (λ f. IfLost f (IsLostOnSome rows.now new.now pivot)) }
 {
     let mut made = Vec::new(alloc);
     for i in 0..rows.len() {
@@ -130,6 +141,7 @@ fn joined(alloc: Global, basis: Growing, new: Ints, pivot: usize) -> Result<Grow
     ensures is_basis { IfOk result (λ b. IsEchelonBasis (length new) b.rows.items b.pivots.items) }
     ensures span { IfOk result (λ b. SameSpan b.rows.items (basis.rows.items ++ new ∷ [])) }
     ensures count { IfOk result (λ b. vec_len b.rows ≡ vec_len basis.rows + 1) }
+    ensures lost { IfErr result (λ f. IfLost f (IsLostOnSome basis.rows.items new pivot)) }
 {
     let mut rows = reduced_older(alloc, &basis.rows, &new, pivot)?;
     let mut pivots = basis.pivots;
@@ -147,6 +159,7 @@ pub(crate) fn taken_in(alloc: Global, basis: Growing, row: &Ints) -> Result<Grow
     ensures count { IfOk result (λ b. vec_len b.rows ≤ vec_len basis.rows + 1) }
     ensures spanned { IfOk result (λ b. vec_len b.rows ≤ vec_len basis.rows
         → InSpan basis.rows.items row.now) }
+    ensures lost { IfErr result (λ f. IfLost f (IsLostRound basis.rows.items basis.pivots.items row.now)) }
 {
     let rest = reduced_in_turn(alloc, &basis.rows, &basis.pivots, row)?;
     let Some(pivot) = pivot_of(&rest) else {

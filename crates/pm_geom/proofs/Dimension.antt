@@ -1,27 +1,24 @@
 -- The dimension of the span of a cone: there is one, it is n less the number of rows of a basis of those that vanish, and it is 0 for {0} alone.
-use Rattle.pm_vector.proofs.ConeLaws.{combination_none, in_generator, in_line, in_line_opposite, in_zero, none_to_zero}
+use Rattle.pm_vector.proofs.ConeLaws.{in_generator, in_line, in_line_opposite, in_zero, none_to_zero}
 use Rattle.pm_vector.proofs.Lists.{Among, all_append, all_at, all_from, among_append, among_append_left, among_append_right, here, there}
-use Rattle.pm_vector.proofs.Ring.{ring}
-use Rattle.pm_vector.proofs.RowLaws.{dot-nil, dot-same, dot_comm, entry-plus, entry-times, length-opposite}
-use Rattle.pm_vector.specs.Cones.{InCone, InSpan, IsIndependent, combination}
+use Rattle.pm_vector.proofs.RowLaws.{dot-nil, dot-same, dot_comm, length-opposite}
+use Rattle.pm_vector.specs.Cones.{InCone, InSpan, IsIndependent}
 use Rattle.pm_vector.specs.Rows.{HasCols, IsZero, Row, dot, entry, opposite}
 use Rattle.pm_vector.proofs.Rank.{independent_are_few, rank_is_determined}
 use Rattle.pm_vector.proofs.Spans.{at_place, same_span, same_span_refl, span_at, span_from, span_of, span_to}
 use Rattle.pm_vector.specs.Bases.{IsRank, SameSpan, row_at}
 use Rattle.pm_elim.proofs.DotLaws.{dot_span_zero}
 use Rattle.pm_geom.proofs.Facets.{dot-opposite}
-use Rattle.pm_geom.proofs.Independent.{decide_zero, independent_both, independent_more, self_zero, units, units_cols, units_entry, units_independent, units_length, units_past}
+use Rattle.pm_geom.proofs.Independent.{decide_zero, in_units, independent_both, independent_more, self_zero, units, units_cols, units_independent, units_length}
 use Rattle.pm_geom.proofs.Polar.{bipolar, cols_at, membership_decided}
 use Rattle.pm_geom.proofs.Spans.{cone_in_span, vanishing_is_null}
 use Rattle.pm_geom.specs.Cones.{IsValid}
 use Rattle.pm_geom.specs.Laws.{NotZeroByRank, RankExists, RankIsLeft}
-use Rattle.std.proofs.Common.{arith, inl, inr, refl, subst, sym, ◌∙◌}
-use Rattle.std.proofs.lemmas.Bool.{cases_lt}
+use Rattle.std.proofs.Common.{arith, inl, inr, refl, subst, ◌∙◌}
 use Rattle.std.proofs.lemmas.Int.{ints}
-use Rattle.std.proofs.lemmas.List.{get_or_past, length-append}
+use Rattle.std.proofs.lemmas.List.{length-append}
 use Rattle.std.specs.Prelude.{List, [], length, suc, zero, ℕ, ◌++◌, ◌+◌, ◌↔◌, ◌∷◌, ◌≡◌, ◌≤◌, ◌⊎◌}
 use lib.IntN.{pos}
-use lib.Signed.{lt_z_yes}
 
 -- ---- some rows are a basis
 pub record SomeBasis (n : ℕ) (X : List Row) : Type 0 where
@@ -65,20 +62,6 @@ pub rank_exists : RankExists
 rank_exists n X h = let b = some_basis n X h in (length b.rows, basis_rank n X b)
 
 -- ---- the rows of a list and those with product 0 with each of them
--- every row of n entries is in the span of the unit rows
-in_units : (n : ℕ) (x : Row) → length x ≡ n → InSpan (units n) x
-in_units n x lx = record {
-  m = pos 1;
-  c = [];
-  d = x;
-  positive = lt_z_yes tt;
-  not_negative = tt;
-  same = record { at = λ i. let e = unit_sum i in simp (entry-times, entry-plus, combination_none, ring) (omega (arith, ints)) };
-}
-  where
-    unit_sum : (i : ℕ) → entry (combination x (units n)) i ≡ entry x i
-    unit_sum i = elim (cases_lt i n) [ inl l ↦ units_entry n x i l | inr l ↦ units_past n x i l ∙ sym (get_or_past x i (pos 0) (omega arith)) ]
-
 module _ (n : ℕ) (B E : List Row) (hb : HasCols n B) (he : HasCols n E) (free : IsIndependent B) (free' : IsIndependent E) (null : (a : Row) → length a ≡ n → ((b : Row) → Among b B → dot a b ≡ pos 0) ↔ InSpan E a) where
   cols : HasCols n (B ++ E)
   cols = all_append (λ (x : Row). length x ≡ n) B E hb he

@@ -126,3 +126,6 @@ dual_row-requires-clause-within c = c.loop-j-test.true
 
 pub loop-j-init : goal.loop-j-init
 loop-j-init c = rw c.new-duals.ensures.items (record { as_many = refl; each = λ i l. absurd (omega arith) })
+
+pub returns-in-Some-clause-independent : goal.returns-in-Some-clause-independent
+returns-in-Some-clause-independent c = independent_of_duals c.args.cols c.args.rows.now c.in-Some.duals.items (rw c.in-Some.is at c.in_ok-duals.ensures)

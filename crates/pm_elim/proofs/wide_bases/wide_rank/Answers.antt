@@ -2,9 +2,9 @@ use Rattle.pm_vector.proofs.Rank.{basis_gives_rank}
 use Rattle.pm_elim.proofs.wide_bases.wide_rank.Goals as goal
 use Rattle.std.proofs.Common.{arith, length, ◌≡◌}
 
-pub returns : goal.returns
-returns c =
-    let b = c.in_ok-basis.ensures in
+pub returns-clause-rank : goal.returns-clause-rank
+returns-clause-rank c =
+    let b = c.in_ok-basis.ensures.basis in
     let counted = c.len.ensures in
     let whole = c.in_ok-basis.basis.rows.ok.0 in
     let e : c.len.result ≡ length c.in_ok-basis.basis.rows.items = omega arith in

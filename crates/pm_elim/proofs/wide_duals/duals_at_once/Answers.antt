@@ -12,6 +12,6 @@ returns c =
     let first = rw c.deref-2.ensures.value at c.begin_with_all.ensures in
     duals_of_tails c.args.cols c.args.rows.now c.in_ok-listed.listed.items c.in_ok-whole.whole.rows.items
     c.in_ok-whole.whole.pivots.items c.requires.columns c.in_ok-listed.ensures
-    (rw c.deref.ensures.value at c.in_ok-whole.ensures) (first.0 c.if-not-begin_with_all.false)
+    (rw c.deref.ensures.value at c.in_ok-whole.ensures.basis) (first.0 c.if-not-begin_with_all.false)
     c.in_ok-duals.duals.items (rw c.deref-3.ensures.value at c.in_ok-duals.ensures.as_many)
     (rw c.deref-3.ensures.value at c.in_ok-duals.ensures.each)

@@ -17,7 +17,7 @@ pub reduced_in_turn-requires : goal.reduced_in_turn-requires
 reduced_in_turn-requires c = rw (c.deref.ensures.value, c.deref-2.ensures.value) (is_basis c)
 
 reduced : (c : In_ok-rest) → ReducedBy c.basis.inside.rows.items c.basis.inside.pivots.items c.args.row.now c.in_ok-rest.rest
-reduced c = rw (c.deref.ensures.value, c.deref-2.ensures.value) at c.in_ok-rest.ensures
+reduced c = rw (c.deref.ensures.value, c.deref-2.ensures.value) at c.in_ok-rest.ensures.reduced
 
 pub returns-clause-zero : goal.returns-clause-zero
 returns-clause-zero c =

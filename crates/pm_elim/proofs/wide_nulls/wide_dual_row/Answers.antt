@@ -1,14 +1,15 @@
 use Rattle.pm_vector.specs.Bases.{column, row_at}
-use Rattle.pm_elim.proofs.DualLaws.{is_dual, pivot_contained}
+use Rattle.pm_elim.proofs.DualCounts.{dependent_of_none_new}
+use Rattle.pm_elim.proofs.DualLaws.{contained_pivot, is_dual, pivot_contained}
 use Rattle.pm_elim.proofs.wide_nulls.wide_dual_row.Goals as goal
 use Rattle.pm_elim.specs.NullSpaces.{IsNullBasis}
-use Rattle.std.proofs.Common.{arith, length, ◌<◌, ◌≡◌}
+use Rattle.std.proofs.Common.{arith, inl, length, ◌<◌, ◌≡◌}
 use Rattle.std.proofs.lemmas.List.{get_or_read}
 use Rattle.std.specs.Prelude.{remove}
 
-pub returns : goal.returns
-returns c =
-    let others : IsNullBasis c.args.cols (remove c.args.rows.now c.args.j) c.in_ok-others.others.rows.items c.in_ok-others.others.pivots.items = rw (c.deref.ensures.value, c.in_ok-other_rows.ensures) at c.in_ok-others.ensures in
+pub returns-clause-dual : goal.returns-clause-dual
+returns-clause-dual c =
+    let others : IsNullBasis c.args.cols (remove c.args.rows.now c.args.j) c.in_ok-others.others.rows.items c.in_ok-others.others.pivots.items = rw (c.deref.ensures.value, c.in_ok-other_rows.ensures) at c.in_ok-others.ensures.null in
     let as_many = others.echelon.as_many in
     let place = c.in-Some.place in
     let within : place < length c.in_ok-others.others.rows.items = (let l = rw c.deref-2.ensures.value at c.in-Some.ensures.within in omega arith) in
@@ -18,3 +19,12 @@ returns c =
     is_dual c.args.rows.now c.args.j c.requires.within c.args.cols c.args.null.now.rows.items c.args.null.now.pivots.items c.in_ok-others.others.rows.items c.in_ok-others.others.pivots.items c.requires.is_null others place within
     (λ p. new (pivot_contained c.args.null.now.pivots.items (column c.in_ok-others.others.pivots.items place) p))
     c.oriented.result (rw (own, found) at c.oriented.ensures)
+
+pub returns-in_default-clause-lost : goal.returns-in_default-clause-lost
+returns-in_default-clause-lost c =
+    let others : IsNullBasis c.args.cols (remove c.args.rows.now c.args.j) c.in_ok-others.others.rows.items c.in_ok-others.others.pivots.items = rw (c.deref.ensures.value, c.in_ok-other_rows.ensures) at c.in_ok-others.ensures.null in
+    let as_many = others.echelon.as_many in
+    let count = rw (c.deref.ensures.value, c.in_ok-other_rows.ensures) at c.in_ok-others.ensures.count in
+    let all = rw (c.deref-2.ensures.value, c.deref-3.ensures.value) at c.in_default.ensures.none in
+    inl (dependent_of_none_new c.args.cols c.args.rows.now c.args.j c.args.null.now.rows.items c.args.null.now.pivots.items c.in_ok-others.others.rows.items c.in_ok-others.others.pivots.items c.requires.columns c.requires.within c.requires.is_null others count
+    (λ t l. contained_pivot c.args.null.now.pivots.items (column c.in_ok-others.others.pivots.items t) (all t (omega arith))))

@@ -4,7 +4,7 @@ use Rattle.std.proofs.Common.{arith, length}
 
 pub returns-clause-is_basis : goal.returns-clause-is_basis
 returns-clause-is_basis c =
-    let reduced = rw c.deref.ensures.value at c.in_ok-rows.ensures in
+    let reduced = rw c.deref.ensures.value at c.in_ok-rows.ensures.reduced in
     let place = rw c.deref-2.ensures.value at c.place_of-place.ensures.within in
     let lower = rw c.deref-2.ensures.value at c.place_of-place.ensures.lower in
     let upper = rw c.deref-2.ensures.value at c.place_of-place.ensures.upper in
@@ -14,6 +14,6 @@ returns-clause-is_basis c =
 
 pub returns-clause-span : goal.returns-clause-span
 returns-clause-span c =
-    let reduced = rw c.deref.ensures.value at c.in_ok-rows.ensures in
+    let reduced = rw c.deref.ensures.value at c.in_ok-rows.ensures.reduced in
     rw c.in_ok-insert.ensures.items
     (joined_span c.args.basis.rows.items c.in_ok-rows.rows.items c.args.new c.args.pivot c.place_of-place.result reduced)

@@ -10,16 +10,16 @@ use Rattle.std.proofs.Common.{arith, length, refl, ◌≡◌, ◌∙◌}
 pub returns-in_default-clause-span : goal.returns-in_default-clause-span
 returns-in_default-clause-span c =
     span_unless_zero (length c.args.row.now) c.args.basis.rows.items c.args.basis.pivots.items c.requires c.args.row.now c.in_ok-rest.rest refl
-    (rw (c.deref.ensures.value, c.deref-2.ensures.value) at c.in_ok-rest.ensures) c.in_default.ensures.zero
+    (rw (c.deref.ensures.value, c.deref-2.ensures.value) at c.in_ok-rest.ensures.reduced) c.in_default.ensures.zero
 
 pub returns-in_default-clause-spanned : goal.returns-in_default-clause-spanned
 returns-in_default-clause-spanned c = λ _.
     inside_unless_zero (length c.args.row.now) c.args.basis.rows.items c.args.basis.pivots.items c.requires c.args.row.now c.in_ok-rest.rest refl
-    (rw (c.deref.ensures.value, c.deref-2.ensures.value) at c.in_ok-rest.ensures) c.in_default.ensures.zero
+    (rw (c.deref.ensures.value, c.deref-2.ensures.value) at c.in_ok-rest.ensures.reduced) c.in_default.ensures.zero
 
 -- the row that is left
 reduced : (c : After-pivot_row-new) → ReducedBy c.args.basis.rows.items c.args.basis.pivots.items c.args.row.now c.in_ok-rest.rest
-reduced c = rw (c.deref.ensures.value, c.deref-2.ensures.value) at c.in_ok-rest.ensures
+reduced c = rw (c.deref.ensures.value, c.deref-2.ensures.value) at c.in_ok-rest.ensures.reduced
 
 -- the new row has as many entries as the given one
 new_length : (c : After-pivot_row-new) → length c.pivot_row-new.result ≡ length c.args.row.now
