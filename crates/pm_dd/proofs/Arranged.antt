@@ -1,5 +1,5 @@
 -- The rows as they are taken, and the fronts of the stated order.
-use Rattle.std.specs.Prelude.{ℕ, ◌+◌, ◌-◌, ◌*◌, ◌≡◌, ◌<◌, ◌≤◌, true, false, None, Some, List, [], ◌++◌, drop, length, map, take}
+use Rattle.std.specs.Prelude.{ℕ, ◌+◌, ◌-◌, suc, ◌*◌, ◌≡◌, ◌<◌, ◌≤◌, true, false, None, Some, List, [], ◌++◌, drop, length, map, take}
 use Rattle.std.proofs.Common.{ap, arith, inl, inr, refl, subst, sym, ◌∙◌}
 use Rattle.std.proofs.Math.Seq.{take-append-add}
 use Rattle.std.proofs.lemmas.Int.{ints}
@@ -26,14 +26,18 @@ use Rattle.pm_geom.proofs.Reduce.{extreme_as, same_modulo_as}
 use Rattle.pm_vector.specs.Products.{ProductsStay}
 use Rattle.pm_dd.specs.Arrangement.{IsArrangement}
 use Rattle.pm_dd.specs.Form.{AreReduced}
+use Rattle.pm_dd.specs.Description.{IsRayStep}
 use Rattle.pm_dd.specs.Fronts.{HalfSpaces}
+use Rattle.pm_dd.specs.Lost.{DualsAreLost, HasWideRay, IsLostSource, StartIsLost}
 use Rattle.pm_dd.specs.Refusals.{IsEliminationFail, IsShown}
 use Rattle.pm_dd.specs.StepFails.{AreTooMany, IsWideSource}
 use Rattle.pm_dd.specs.declared.fails.DdFail.{DdFail}
 use Rattle.pm_dd.specs.declared.fails.DdFail.TheVariants.{Many, Memory, Wide}
 use Rattle.pm_geom.specs.declared.evidence.Evidence.TheVariants.{E1}
 use Rattle.pm_dd.proofs.Marks.{among_marked, marked_lengths}
-use Rattle.pm_dd.proofs.Stated.{among_rows, marked_free, marked_rank, marked_span, step_fail_shows}
+use Rattle.pm_dd.proofs.Fronts.{dd_step_holds}
+use Rattle.pm_dd.proofs.Lost.{wide_ray}
+use Rattle.pm_dd.proofs.Stated.{among_rows, marked_free, marked_rank, marked_span, stated_order_spans, step_fail_shows}
 use Rattle.pm_dd.proofs.StepLaws.{at_place, flat_on}
 use Rattle.pm_dd.proofs.Tables.{among_of_map}
 use lib.IntN.{pos}
@@ -139,6 +143,9 @@ module _ (n : ℕ) (X E J : List Row) (start : ℕ) (hX : HasCols n X) (a : IsAr
   elimination_shown (Wide e) h = absurd h
   elimination_shown (Many e) h = absurd h
   elimination_shown Memory h = tt
+
+  pub start_lost : DualsAreLost n (E ++ take start J) → StartIsLost n X
+  start_lost h = record { marks = a.marks; enlarging = a.enlarging; lost = rw a.first h }
 
   -- ---- the stated order, and its fronts
   ordered : List Row
@@ -278,3 +285,26 @@ module _ (n : ℕ) (X E J : List Row) (start : ℕ) (hX : HasCols n X) (a : IsAr
         source = rw next_row (w.source.0, w.source.1, w.source.2, w.source.3, record { third = λ k lk p. w.source.4.third k lk (λ b m zi zj. p b (Contains_among (among_front_rows (among_Contains (take f J) m))) zi zj) });
         combination = rw next_row w.combination;
       })
+
+  -- ---- a lost combination
+  module _ (f : ℕ) (from : start ≤ f) (l : f < length J) (V : List Row) (o : IsOrder n (HalfSpaces E (take f J)) V) (r : AreReduced n (E ++ take start J) V) (w : IsLostSource J f V) where
+    lost_source : IsLostSource ((E ++ take start J) ++ (map opposite E ++ drop start J)) (f + 2 * length E) V
+    lost_source = record {
+      first = w.first;
+      second = w.second;
+      source = rw (next_row f from) (w.source.0, w.source.1, w.source.2, w.source.3, record { third = λ k lk p. w.source.4.third k lk (λ b m zi zj. p b (Contains_among (among_front_rows f from (among_Contains (take f J) m))) zi zj) });
+      lost = rw (next_row f from) w.lost;
+    }
+
+    next_step : IsRayStep n (CutOut (take (suc f + 2 * length E) ((E ++ take start J) ++ (map opposite E ++ drop start J)))) (take (f + 2 * length E) ((E ++ take start J) ++ (map opposite E ++ drop start J))) (row_at ((E ++ take start J) ++ (map opposite E ++ drop start J)) (f + 2 * length E)) V
+    next_step =
+        let (cols, span, rank, free) = stated_order_spans n X ((E ++ take start J) ++ (map opposite E ++ drop start J)) hX stated (length E + start) first_rank in
+        let e : suc (f + 2 * length E) ≡ suc f + 2 * length E = omega arith in
+        subst (λ (k : ℕ). IsRayStep n (CutOut (take k ((E ++ take start J) ++ (map opposite E ++ drop start J)))) (take (f + 2 * length E) ((E ++ take start J) ++ (map opposite E ++ drop start J))) (row_at ((E ++ take start J) ++ (map opposite E ++ drop start J)) (f + 2 * length E)) V) e
+        (dd_step_holds n ((E ++ take start J) ++ (map opposite E ++ drop start J)) cols (length E + start) rank free (f + 2 * length E) (let q = first_length in let k = rank_is_determined X (length E + start) (length E + start) first_rank first_rank in omega arith) (let q = ordered_length f from in omega arith) V (order f from l V o r))
+
+    pub wide_ray_shown : HasWideRay n X
+    wide_ray_shown =
+        let up : start ≤ suc f = omega arith in
+        let w = wide_ray n ((E ++ take start J) ++ (map opposite E ++ drop start J)) (f + 2 * length E) (suc f + 2 * length E) V next_step lost_source r.null r.pivots (line_basis (suc f) up r.null r.pivots r.basis) r.zeros in
+        record { ordered = ((E ++ take start J) ++ (map opposite E ++ drop start J)); front = suc f + 2 * length E; stated = stated_front (suc f) up (omega arith); ray = w.0; canonical = w.1; wide = w.2 }

@@ -16,6 +16,8 @@ pub mod FarRays
 pub mod Stated
 pub mod StepFails
 pub mod FormLaws
+pub mod Lost
+pub mod LostExamples
 pub mod Arranged
 pub mod Ascending
 pub mod Marks

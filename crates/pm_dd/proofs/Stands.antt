@@ -1,7 +1,7 @@
 -- What stands for a product has its sign, and is it where it is no end of the range.
 use Rattle.pm_vector.specs.Numbers.{InRange}
 use Rattle.pm_dd.specs.Building.{NextZeros, StandsFor}
-use Rattle.std.specs.Prelude.{ℕ, ◌-◌, ◌^◌, ◌≡◌, ◌<◌, ◌≤◌, Bool, List, unsigned_abs}
+use Rattle.std.specs.Prelude.{ℕ, ◌-◌, ◌^◌, ◌≡◌, Bool, List, unsigned_abs}
 use Rattle.std.proofs.Common.{arith, inl, inr}
 use Rattle.std.proofs.lemmas.Bool.{cases_lt}
 use Rattle.std.proofs.lemmas.Int.{by_lt_z, ints}

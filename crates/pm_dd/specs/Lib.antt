@@ -5,6 +5,8 @@ pub mod Tables
 pub mod Building
 pub mod Stated
 pub mod StepFails
+pub mod Lost
+pub mod LostExamples
 pub mod Form
 pub mod Refusals
 pub mod Arrangement

@@ -5,8 +5,9 @@ ghost use Rattle.pm_vector.specs.Numbers.{InRange};
 ghost use Rattle.pm_vector.specs.Products.{ProductsStay};
 ghost use Rattle.pm_vector.specs.Rows.{difference, dot as dot_of};
 ghost use Rattle.pm_dd.specs.Building.{IsCombination, StandsFor};
+ghost use Rattle.pm_dd.specs.Lost.{CombinationIsLost, IfCombinationLost};
 ghost use Rattle.pm_dd.specs.StepFails.{IfColumn, IsCombinationFail, IsWideFactors};
-ghost use Rattle.std.specs.Prelude.{IfErr, IfNone, IfOk, IfSome, length, pos, ◌<ℤ◌, ◌≡◌};
+ghost use Rattle.std.specs.Prelude.{IfErr, IfNone, IfOk, IfSome, length, pos, true, ◌<ℤ◌, ◌≡◌};
 
 use crate::fails::CombinationFail;
 use pm_elim::cancelling_factors;
@@ -98,7 +99,8 @@ fn wide_combination(
 ) -> Result<Option<Ints>, AllocError>
     requires up_cols { length row.now ≡ length up.now }
     requires down_cols { length row.now ≡ length down.now }
-    ensures { IfOk result (λ o. IfSome o (λ w. IsCombination row.now up.now down.now w)) }
+    ensures combination { IfOk result (λ o. IfSome o (λ w. IsCombination row.now up.now down.now w)) }
+    ensures lost { IfOk result (λ o. IfNone o (CombinationIsLost row.now up.now down.now)) }
 {
     let p = wide_dot(row.as_slice(), up.as_slice());
     let q = wide_dot(row.as_slice(), down.as_slice());
@@ -127,6 +129,8 @@ pub(crate) fn combination_of(
     requires positive { pos 0 <ℤ dot_of row.now up.now }
     ensures combination { IfOk result (λ w. IsCombination row.now up.now down.now w) }
     ensures fail { IfErr result (λ f. IsCombinationFail row.now up.now down.now f) }
+    ensures lost { wide ≡ true → IfErr result (λ f.
+        IfCombinationLost f (CombinationIsLost row.now up.now down.now)) }
 {
     let fail = match exact_combination(alloc, row, up, up_value, down, down_value) {
         Ok(made) => return Ok(made),

@@ -4,11 +4,13 @@ ghost use Rattle.pm_vector.specs.Cones.{IsIndependent};
 ghost use Rattle.pm_vector.specs.Rows.{HasCols};
 ghost use Rattle.pm_dd.specs.Building.{AllBut};
 ghost use Rattle.pm_dd.specs.Form.{AreReduced};
+ghost use Rattle.pm_dd.specs.Lost.{DualsAreLost, IfWide};
 ghost use Rattle.pm_dd.specs.Refusals.{IsShownOnRows};
 ghost use Rattle.pm_dd.specs.Tables.{IsRayTable};
 ghost use Rattle.pm_elim.specs.Duals.{IfDependent, IfDualWide};
 ghost use Rattle.pm_elim.specs.Evidence.{IsEvidence};
-ghost use Rattle.std.specs.Prelude.{IfErr, IfOk, length, take, ◌*◌, ◌++◌, ◌+◌, ◌<◌, ◌^◌, ◌≡◌, ◌≤◌};
+ghost use Rattle.pm_elim.specs.Lost.{HasNoWideDuals};
+ghost use Rattle.std.specs.Prelude.{IfErr, IfOk, length, take, true, ◌*◌, ◌++◌, ◌+◌, ◌<◌, ◌^◌, ◌≡◌, ◌≤◌};
 
 use crate::fails::DdFail;
 use crate::rays::Rays;
@@ -80,6 +82,8 @@ fn first_rays(
         IfDependent f (¬ (IsIndependent (equations.now ++ take start rows.now)))) }
     ensures wide { IfErr result (λ f.
         IfDualWide f (λ e. IsEvidence cols (equations.now ++ take start rows.now) e)) }
+    ensures lost { wide ≡ true → IfErr result (λ f.
+        IfDualWide f (λ _. HasNoWideDuals cols (equations.now ++ take start rows.now))) }
 {
     let duals = dual_basis_by(alloc, independent, cols, wide)?;
     let mut made = Vec::new(alloc);
@@ -116,6 +120,8 @@ pub fn start_rays(
     ensures reduced { IfOk result (λ r.
         AreReduced cols (equations.now ++ take start rows.now) r.rows.items) }
     ensures shown { IfErr result (IsShownOnRows cols equations.now rows.now start) }
+    ensures lost { wide ≡ true → IfErr result (λ f.
+        IfWide f (DualsAreLost cols (equations.now ++ take start rows.now))) }
 {
     let rays = match first_rays(alloc, cols, equations, rows, start, independent, wide) {
         Ok(rays) => rays,

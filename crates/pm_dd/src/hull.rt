@@ -6,11 +6,12 @@ ghost use Rattle.pm_dd.specs.Fronts.{HalfSpaces};
 ghost use Rattle.pm_geom.specs.Generators.{AreGenerators};
 ghost use Rattle.pm_dd.specs.HullRefusals.{IsShownOnParts};
 ghost use Rattle.pm_dd.specs.Hulls.{AreFacets, InConeOf, InPolytopeCone, half_spaces_of};
+ghost use Rattle.pm_dd.specs.Lost.{IfWide, PartsAreLost};
 ghost use Rattle.pm_elim.specs.Evidence.{unit};
-ghost use Rattle.std.specs.Prelude.{Any, IfErr, IfOk, IsTrue, [], length, pos, ◌++◌, ◌<ℤ◌, ◌<◌, ◌^◌, ◌∷◌, ◌≡◌, ◌≢◌, ◌≤◌, ◌↔◌};
+ghost use Rattle.std.specs.Prelude.{Any, IfErr, IfOk, IsTrue, [], length, pos, true, ◌++◌, ◌<ℤ◌, ◌<◌, ◌^◌, ◌∷◌, ◌≡◌, ◌≢◌, ◌≤◌, ◌↔◌};
 ghost use Rattle.pm_limits.specs.Limits.{most_rows};
 
-use crate::extreme::rays_of;
+use crate::extreme::{few_rays, rays_of};
 use crate::fails::DdFail;
 use crate::parts::double_list;
 use pm_elim::copies;
@@ -19,13 +20,14 @@ use pm_object_type::ObjectType;
 use pm_vector::Ints;
 use std::alloc::{AllocError, Global};
 
-/// The generators of the cone that half-spaces and equations cut out.
+/// The generators of the cone that half-spaces and equations cut out; with `sorts`, first by the lexicographic order.
 fn cone_generators(
     alloc: Global,
     cols: usize,
     rows: &[Ints],
     equations: &[Ints],
     wide: bool,
+    sorts: bool,
 ) -> Result<Generators, DdFail>
     requires row_cols { HasCols cols rows.now }
     requires equation_cols { HasCols cols equations.now }
@@ -36,8 +38,14 @@ fn cone_generators(
         AreGenerators cols (HalfSpaces equations.now rows.now) g.rays.items g.lineality.items) }
     ensures few { IfOk result (λ g. length g.rays.items ≤ most_rows) }
     ensures shown { IfErr result (IsShownOnParts cols equations.now rows.now) }
+    ensures lost { wide ≡ true → IfErr result (λ f. IfWide f (PartsAreLost cols equations.now rows.now)) }
 {
     let list = double_list(alloc, cols, equations, rows, wide)?;
+    if sorts {
+        if let Some(found) = few_rays(alloc, &list, cols, wide) {
+            return Ok(found);
+        }
+    }
     rays_of(alloc, &list, cols, wide)
 }
 
@@ -48,7 +56,7 @@ fn cone_generators(
 /// By polarity these are the generators of the cone that the rays, with the lineality as equations, cut out.
 /// A refusal has evidence on the lineality, or on its echelon basis both ways and then the rays.
 /// With `wide`, a step that leaves the range is worked by wide numbers; a refusal is still that of a step by numbers
-/// of the range alone.
+/// of the range alone, and `Wide` comes only where double description by wide numbers is lost too.
 pub fn facets_of(
     alloc: Global,
     cols: usize,
@@ -64,8 +72,9 @@ pub fn facets_of(
     ensures facets { IfOk result (λ f. AreFacets cols rays.now lineality.now f.facets.items f.hull.items) }
     ensures few { IfOk result (λ f. length f.facets.items ≤ most_rows) }
     ensures shown { IfErr result (IsShownOnParts cols lineality.now rays.now) }
+    ensures lost { wide ≡ true → IfErr result (λ f. IfWide f (PartsAreLost cols lineality.now rays.now)) }
 {
-    let dual = cone_generators(alloc, cols, rays, lineality, wide)?;
+    let dual = cone_generators(alloc, cols, rays, lineality, wide, false)?;
     Ok(Facets {
         facets: dual.rays,
         hull: dual.lineality,
@@ -135,9 +144,11 @@ fn polytope_generators(
         AreGenerators cols (InPolytopeCone cols rows.now equations.now) g.rays.items g.lineality.items) }
     ensures few { IfOk result (λ g. length g.rays.items ≤ most_rows) }
     ensures shown { IfErr result (IsShownOnParts cols equations.now (rows.now ++ unit cols 0 ∷ [])) }
+    ensures lost { wide ≡ true → IfErr result (λ f.
+        IfWide f (PartsAreLost cols equations.now (rows.now ++ unit cols 0 ∷ []))) }
 {
     let all = with_far_face(alloc, cols, rows)?;
-    let found = cone_generators(alloc, cols, &all, equations, wide)?;
+    let found = cone_generators(alloc, cols, &all, equations, wide, true)?;
     if has_point(&found.rays) {
         return Ok(found);
     }
@@ -154,7 +165,7 @@ fn polytope_generators(
 /// are at most `MOST_ROWS` of them.
 /// A refusal has evidence on the equations, or on their echelon basis both ways and then the half-spaces.
 /// With `wide`, a step that leaves the range is worked by wide numbers; a refusal is still that of a step by numbers
-/// of the range alone.
+/// of the range alone, and `Wide` comes only where double description by wide numbers is lost too.
 pub fn generators_of(
     alloc: Global,
     of: ObjectType,
@@ -173,10 +184,12 @@ pub fn generators_of(
         AreGenerators cols (InConeOf of cols rows.now equations.now) g.rays.items g.lineality.items) }
     ensures few { IfOk result (λ g. length g.rays.items ≤ most_rows) }
     ensures shown { IfErr result (IsShownOnParts cols equations.now (half_spaces_of of cols rows.now)) }
+    ensures lost { wide ≡ true → IfErr result (λ f.
+        IfWide f (PartsAreLost cols equations.now (half_spaces_of of cols rows.now))) }
 {
     match of {
         ObjectType::Polytope => polytope_generators(alloc, cols, rows, equations, wide),
-        ObjectType::Cone => cone_generators(alloc, cols, rows, equations, wide),
+        ObjectType::Cone => cone_generators(alloc, cols, rows, equations, wide, false),
         ObjectType::Fan => unreachable!(),
     }
 }

@@ -6,6 +6,7 @@
 ghost use Rattle.pm_dd.specs.Description.{DualIsOrder, ExtremeIsMaximal, NextIsOrder, StepIsComplete};
 ghost use Rattle.pm_dd.specs.Examples.{QuadrantIsRead};
 ghost use Rattle.pm_dd.specs.Fronts.{DdStep, DualWithEquations, NextWithEquations, SignsCutOut, StepWithEquations};
+ghost use Rattle.pm_dd.specs.LostExamples.{LossesAreRead};
 ghost use Rattle.pm_dd.specs.Stated.{AdjacentInAll, StatedOrderSpans, StepFailShows};
 ghost use Rattle.pm_dd.specs.Filters.{AdjacentNeedRank, FewHaveThird};
 ghost use Rattle.pm_dd.specs.Tables.{CountFilter, NearFilter, ScanIsRight, ZeroSetOfPair, ZeroSetsGrow};
@@ -135,4 +136,9 @@ pub fn law_step_fail_shows()
 /// and on numbers in the range and outside.
 pub fn example_quadrant()
     ensures { QuadrantIsRead }
+{}
+
+/// What is lost, read on combinations of rows with three entries, and on cones of the plane and of the line.
+pub fn example_losses()
+    ensures { LossesAreRead }
 {}

@@ -4,6 +4,7 @@ ghost use Rattle.pm_vector.specs.Cones.{InSpan};
 ghost use Rattle.pm_vector.specs.Rows.{HasCols};
 ghost use Rattle.pm_vector.specs.Bases.{row_at};
 ghost use Rattle.pm_dd.specs.Building.{IsListed, SeenKept, SeenPairs, StandFor, kept_count};
+ghost use Rattle.pm_dd.specs.Lost.{IfStepLost};
 ghost use Rattle.pm_dd.specs.StepFails.{IsStepFail};
 ghost use Rattle.pm_dd.specs.Tables.{IsRayTable};
 ghost use Rattle.std.specs.Prelude.{IfOk, length, take, ℕ, ◌++◌, ◌+◌, ◌<◌, ◌≡◌};
@@ -69,7 +70,8 @@ pub(crate) fn too_many(
     requires listed { (i : ℕ) × (j : ℕ) × IsListed cols equations.now rows.now front rays.now.rows.items
         (SeenPairs i j) made.items }
     requires many { MOST_ROWS < kept_count values.now + length made.items }
-    ensures { IfOk result (λ f. IsStepFail cols equations.now rows.now front rays.now.rows.items f) }
+    ensures shown { IfOk result (λ f. IsStepFail cols equations.now rows.now front rays.now.rows.items f) }
+    ensures not_lost { IfOk result (λ f. IfStepLost f ⊥) }
 {
     let mut all = kept_copies(alloc, cols, equations, rows, front, rays, values)?;
     let mut more = made;

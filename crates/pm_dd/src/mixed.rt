@@ -1,4 +1,4 @@
-// An order of the rows that keeps the cones on the way small where the stated one often does not.
+// Orders of the rows that keep the cones on the way small where the stated one often does not.
 
 ghost use Rattle.pm_dd.specs.Mixed.{HaveSameRows};
 ghost use Rattle.std.specs.Prelude.{IfOk, length, ◌≤◌};
@@ -25,9 +25,20 @@ fn from_both_ends(alloc: Global, rows: &[Ints]) -> Result<Vec<Ints>, AllocError>
     Ok(made)
 }
 
-/// The rows that lead with their opposites as they stand, and after them the others in lexicographic order, taken
-/// alternately from both ends.
-pub(crate) fn mixed_order(alloc: Global, rows: &[Ints]) -> Result<Vec<Ints>, AllocError>
+/// Rows in their order; with `mixes` taken alternately from both ends.
+fn arrange(alloc: Global, rows: Vec<Ints>, mixes: bool) -> Result<Vec<Ints>, AllocError>
+    ensures same { IfOk result (λ v. HaveSameRows rows.items v.items) }
+    ensures count { IfOk result (λ v. length v.items ≤ length rows.items) }
+{
+    if mixes {
+        return from_both_ends(alloc, &rows);
+    }
+    Ok(rows)
+}
+
+/// The rows that lead with their opposites as they stand, and after them the others in lexicographic order; with
+/// `mixes` these are taken alternately from both ends.
+pub(crate) fn ordered(alloc: Global, rows: &[Ints], mixes: bool) -> Result<Vec<Ints>, AllocError>
     ensures same { IfOk result (λ v. HaveSameRows rows.now v.items) }
     ensures count { IfOk result (λ v. length v.items ≤ length rows.now) }
 {
@@ -35,6 +46,6 @@ pub(crate) fn mixed_order(alloc: Global, rows: &[Ints]) -> Result<Vec<Ints>, All
     let head = copies(alloc, &rows[..lead])?;
     let mut sorted = copies(alloc, &rows[lead..])?;
     sorted.sort()?;
-    let mixed = from_both_ends(alloc, &sorted)?;
+    let mixed = arrange(alloc, sorted, mixes)?;
     add_copies(alloc, &mixed, head)
 }

@@ -2,9 +2,11 @@
 
 ghost use Rattle.pm_vector.specs.Rows.{HasCols};
 ghost use Rattle.pm_dd.specs.Arrangement.{IsArrangement};
+ghost use Rattle.pm_dd.specs.Lost.{IfWide};
 ghost use Rattle.pm_dd.specs.Refusals.{IsShown};
+ghost use Rattle.pm_elim.specs.Lost.{IsLost};
 ghost use Rattle.pm_geom.specs.StatedOrder.{rows_marked};
-ghost use Rattle.std.specs.Prelude.{IfErr, IfOk, [], length, ◌*◌, ◌++◌, ◌+◌, ◌<◌, ◌^◌, ◌≡◌, ◌≤◌};
+ghost use Rattle.std.specs.Prelude.{IfErr, IfOk, [], length, true, ◌*◌, ◌++◌, ◌+◌, ◌<◌, ◌^◌, ◌≡◌, ◌≤◌};
 
 use crate::fails::DdFail;
 use crate::leading::{leading_equations, leading_pairs};
@@ -55,6 +57,7 @@ pub(crate) fn arranged(
     ensures arranged { IfOk result (λ a. IsArrangement rows.now a.equations.items a.rows.items a.start) }
     ensures few_rows { IfOk result (λ a. length a.rows.items + 2 * length a.equations.items < 2 ^ 32) }
     ensures shown { IfErr result (λ f. IsShown cols rows.now f) }
+    ensures lost { wide ≡ true → IfErr result (λ f. IfWide f (IsLost cols rows.now)) }
 {
     let marks = enlarging_by(alloc, rows, cols, wide)?;
     let pairs = leading_pairs(alloc, rows)?;

@@ -4,10 +4,11 @@ ghost use Rattle.pm_vector.specs.Cones.{InSpan};
 ghost use Rattle.pm_vector.specs.Rows.{HasCols, dot};
 ghost use Rattle.pm_vector.specs.Bases.{IsRank, row_at};
 ghost use Rattle.pm_dd.specs.Building.{IsBuilt, IsNoPair, IsPair, IsPairRay, StandFor, kept_count};
+ghost use Rattle.pm_dd.specs.Lost.{IfStepLost, IsLostSource, IsLostTablePair};
 ghost use Rattle.pm_dd.specs.StepFails.{IsPairFailOf, IsStepFail};
 ghost use Rattle.pm_dd.specs.Tables.{IsRayTable};
 ghost use Rattle.pm_geom.specs.Faces.{ray};
-ghost use Rattle.std.specs.Prelude.{IfErr, IfNone, IfOk, IfSome, length, pos, take, ◌++◌, ◌+◌, ◌-◌, ◌<ℤ◌, ◌<◌, ◌≡◌, ◌≤◌};
+ghost use Rattle.std.specs.Prelude.{IfErr, IfNone, IfOk, IfSome, length, pos, take, true, ◌++◌, ◌+◌, ◌-◌, ◌<ℤ◌, ◌<◌, ◌≡◌, ◌≤◌};
 
 use crate::combination::combination_of;
 use crate::fails::{CombinationFail, StepFail};
@@ -52,6 +53,8 @@ pub(crate) fn pair_ray(
     ensures some { IfOk result (λ o.
         IfSome o (λ r. IsPairRay row.now rays.now.rows.items rays.now.zeros i j front r.row r.zeros)) }
     ensures wide { IfErr result (λ f. IsPairFailOf row.now rays.now.rows.items rays.now.zeros i j f) }
+    ensures lost { wide ≡ true → IfErr result (λ f.
+        IfStepLost f (IsLostTablePair row.now rays.now.rows.items rays.now.zeros i j)) }
 {
     let first = rays.zeros.row(i);
     let second = rays.zeros.row(j);
@@ -113,6 +116,8 @@ pub(crate) fn paired_rays(
     ensures built { IfOk result (λ r. IsBuilt cols equations.now rows.now front rays.now.rows.items IsPair
         r.rows.items r.zeros.rows) }
     ensures wide { IfErr result (λ f. IsStepFail cols equations.now rows.now front rays.now.rows.items f) }
+    ensures lost { wide ≡ true → IfErr result (λ f.
+        IfStepLost f (IsLostSource rows.now front rays.now.rows.items)) }
 {
     let need = needed(rank, equations.len());
     let unions = unions_of(alloc, &rays.zeros, values)?;

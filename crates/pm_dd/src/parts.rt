@@ -2,9 +2,11 @@
 
 ghost use Rattle.pm_vector.specs.Rows.{HasCols};
 ghost use Rattle.pm_dd.specs.Fronts.{both_signs};
+ghost use Rattle.pm_dd.specs.Lost.{IfWide};
 ghost use Rattle.pm_dd.specs.Refusals.{IsEliminationFail};
 ghost use Rattle.pm_dd.specs.HullRefusals.{IsDoubleList};
-ghost use Rattle.std.specs.Prelude.{IfErr, IfOk, length, ◌++◌, ◌<◌, ◌^◌, ◌≡◌};
+ghost use Rattle.pm_elim.specs.Lost.{IsLost};
+ghost use Rattle.std.specs.Prelude.{IfErr, IfOk, length, true, ◌++◌, ◌<◌, ◌^◌, ◌≡◌};
 
 use crate::fails::DdFail;
 use pm_elim::echelon_by;
@@ -49,6 +51,7 @@ pub(crate) fn double_list(
     requires few_columns { cols < 2 ^ 31 }
     ensures list { IfOk result (λ v. IsDoubleList cols first.now second.now v.items) }
     ensures wide { IfErr result (IsEliminationFail cols first.now) }
+    ensures lost { wide ≡ true → IfErr result (λ f. IfWide f (IsLost cols first.now)) }
 {
     let basis = echelon_by(alloc, first, cols, wide)?;
     let signs = both_ways(alloc, &basis.rows)?;

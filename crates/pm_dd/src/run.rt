@@ -3,12 +3,13 @@
 ghost use Rattle.pm_vector.specs.Rows.{HasCols};
 ghost use Rattle.pm_dd.specs.Form.{AreReduced};
 ghost use Rattle.pm_dd.specs.Fronts.{HalfSpaces};
+ghost use Rattle.pm_dd.specs.Lost.{HasWideRayOnRows, IfStepLost, IfWide, IsLostSource};
 ghost use Rattle.pm_dd.specs.Refusals.{IsShownOnRows};
 ghost use Rattle.pm_dd.specs.StepFails.{IsStepFail};
 ghost use Rattle.pm_dd.specs.Tables.{IsRayTable};
 ghost use Rattle.pm_vector.specs.Bases.{IsRank, SameSpan};
 ghost use Rattle.pm_geom.specs.Cones.{IsOrder};
-ghost use Rattle.std.specs.Prelude.{IfErr, IfOk, length, take, ◌*◌, ◌++◌, ◌+◌, ◌<◌, ◌^◌, ◌≡◌, ◌≤◌};
+ghost use Rattle.std.specs.Prelude.{IfErr, IfNone, IfOk, IfSome, length, take, true, ◌*◌, ◌++◌, ◌+◌, ◌<◌, ◌^◌, ◌≡◌, ◌≤◌};
 
 use crate::fails::{DdFail, StepFail};
 use crate::rays::Rays;
@@ -56,7 +57,9 @@ pub fn refusal_of(
     requires order { IsOrder cols (HalfSpaces equations.now (take front rows.now)) rays.now }
     requires reduced { AreReduced cols (equations.now ++ take start rows.now) rays.now }
     requires fail { IsStepFail cols equations.now rows.now front rays.now fail }
-    ensures { IsShownOnRows cols equations.now rows.now start result }
+    ensures shown { IsShownOnRows cols equations.now rows.now start result }
+    ensures lost { IfStepLost fail (IsLostSource rows.now front rays.now)
+        → IfWide result (HasWideRayOnRows cols equations.now rows.now start) }
 {
     let place = front + 2 * equations.len();
     let evidence = match fail {
@@ -116,6 +119,8 @@ pub fn rays_after(
     ensures reduced { IfOk result (λ r.
         AreReduced cols (equations.now ++ take start rows.now) r.rows.items) }
     ensures shown { IfErr result (IsShownOnRows cols equations.now rows.now start) }
+    ensures lost { wide ≡ true → IfErr result (λ f.
+        IfWide f (HasWideRayOnRows cols equations.now rows.now start)) }
 {
     let rank = equations.len() + start;
     let step = match step_at(alloc, cols, equations, rows, front, rank, &rays, wide) {
@@ -129,7 +134,7 @@ pub fn rays_after(
 }
 
 /// The rays of all rows: those of the first `start`, which with the equations are independent, and one step for each
-/// further row.
+/// further row. None where a front has more than `most` rays.
 pub(crate) fn all_rays(
     alloc: Global,
     cols: usize,
@@ -138,7 +143,8 @@ pub(crate) fn all_rays(
     start: usize,
     first: Rays,
     wide: bool,
-) -> Result<Rays, DdFail>
+    most: usize,
+) -> Result<Option<Rays>, DdFail>
     requires equation_cols { HasCols cols equations.now }
     requires row_cols { HasCols cols rows.now }
     requires few_rows { length rows.now + 2 * length equations.now < 2 ^ 32 }
@@ -150,15 +156,22 @@ pub(crate) fn all_rays(
     requires row_len { first.zeros.row_len ≡ length rows.now }
     requires few { length first.rows.items ≤ MOST_ROWS }
     requires reduced { AreReduced cols (equations.now ++ take start rows.now) first.rows.items }
-    ensures order { IfOk result (λ r. IsOrder cols (HalfSpaces equations.now rows.now) r.rows.items) }
-    ensures few { IfOk result (λ r. length r.rows.items ≤ MOST_ROWS) }
-    ensures reduced { IfOk result (λ r.
-        AreReduced cols (equations.now ++ take start rows.now) r.rows.items) }
+    ensures order { IfOk result (λ o. IfSome o (λ r.
+        IsOrder cols (HalfSpaces equations.now rows.now) r.rows.items)) }
+    ensures few { IfOk result (λ o. IfSome o (λ r. length r.rows.items ≤ MOST_ROWS)) }
+    ensures reduced { IfOk result (λ o. IfSome o (λ r.
+        AreReduced cols (equations.now ++ take start rows.now) r.rows.items)) }
+    ensures none { IfOk result (λ o. IfNone o (most < MOST_ROWS)) }
     ensures shown { IfErr result (IsShownOnRows cols equations.now rows.now start) }
+    ensures lost { wide ≡ true → IfErr result (λ f.
+        IfWide f (HasWideRayOnRows cols equations.now rows.now start)) }
 {
     let mut rays = first;
     for front in start..rows.len() {
         rays = rays_after(alloc, cols, equations, rows, start, front, rays, wide)?;
+        if rays.rows.len() > most {
+            return Ok(None);
+        }
     }
-    Ok(rays)
+    Ok(Some(rays))
 }

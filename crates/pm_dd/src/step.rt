@@ -6,11 +6,12 @@ ghost use Rattle.pm_vector.specs.WideInts.{value_of};
 ghost use Rattle.pm_vector.specs.Bases.{IsRank, row_at};
 ghost use Rattle.pm_dd.specs.Building.{IsBuilt, IsPair, NextZeros, SeenKept, StandFor, StandsFor, kept_count};
 ghost use Rattle.pm_dd.specs.Form.{KeepForm};
+ghost use Rattle.pm_dd.specs.Lost.{IfStepLost, IsLostSource};
 ghost use Rattle.pm_dd.specs.StepFails.{IfProduct, IsStepFail};
 ghost use Rattle.pm_dd.specs.Tables.{IsRayTable, zero_set};
 ghost use Rattle.pm_geom.specs.Faces.{ray};
 ghost use Rattle.pm_vector.specs.Products.{ProductsStay};
-ghost use Rattle.std.specs.Prelude.{IfErr, IfOk, IsTrue, OnErr, length, take, ℕ, ◌++◌, ◌+◌, ◌<◌, ◌≡◌, ◌≢◌, ◌≤◌};
+ghost use Rattle.std.specs.Prelude.{IfErr, IfOk, IsTrue, OnErr, length, take, true, ℕ, ◌++◌, ◌+◌, ◌<◌, ◌≡◌, ◌≢◌, ◌≤◌};
 
 use crate::fails::StepFail;
 use crate::pairs::paired_rays;
@@ -152,6 +153,8 @@ pub(crate) fn step_at(
     ensures built { IfOk result (λ s. IsBuilt cols equations.now rows.now front rays.now.rows.items IsPair
         s.pairs.rows.items s.pairs.zeros.rows) }
     ensures wide { IfErr result (λ f. IsStepFail cols equations.now rows.now front rays.now.rows.items f) }
+    ensures lost { wide ≡ true → IfErr result (λ f.
+        IfStepLost f (IsLostSource rows.now front rays.now.rows.items)) }
 {
     let values = products(alloc, &rows[front], &rays.rows, wide)?;
     let pairs = paired_rays(

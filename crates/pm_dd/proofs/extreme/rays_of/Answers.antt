@@ -18,5 +18,6 @@ returns c = record {
   generators = c.stated_rays-in-Err.ensures.generators;
   few = c.stated_rays-in-Err.ensures.few;
   shown = c.stated_rays-in-Err.ensures.shown;
+  lost = c.stated_rays-in-Err.ensures.lost;
   tame = λ t. err_weaker c.stated_rays-in-Err.result _ _ (λ f h. tame_shown c.args.cols c.args.rows.now c.requires.columns t f h) c.stated_rays-in-Err.ensures.shown;
 }

@@ -13,6 +13,11 @@ returns-in_err-duals-clause-dependent c =
     let p = err_from_is_err_and c.from_residual.result c.from_residual.ensures.1 in
     rw (p.1, p.2) (rw c.requires.these at c.in_err-duals.ensures.dependent)
 
+pub returns-in_err-duals-clause-lost : goal.returns-in_err-duals-clause-lost
+returns-in_err-duals-clause-lost c = λ e.
+    let p = err_from_is_err_and c.from_residual.result c.from_residual.ensures.1 in
+    rw (p.1, p.2) (rw c.requires.these at (c.in_err-duals.ensures.lost e))
+
 pub loop-k-preserved : goal.loop-k-preserved
 loop-k-preserved c =
     let dual : IsDualBasis c.args.cols (c.args.equations.now ++ take c.args.start c.args.rows.now) c.in_ok-duals.duals.items = rw c.requires.these at c.in_ok-duals.ensures.dual in

@@ -4,8 +4,8 @@ use Rattle.std.proofs.Common.{arith, length, ◌++◌, ◌<◌}
 use Rattle.std.proofs.lemmas.List.{length-append}
 use Rattle.pm_limits.specs.Limits.{most_rows}
 
-pub returns : goal.returns
-returns c =
+pub returns-clause-shown : goal.returns-clause-shown
+returns-clause-shown c =
     let all = c.in_ok-all.all.items in
     let made = c.args.made.items in
     let many : most_rows < length (all ++ made) = let n = c.in_ok-all.ensures.count in let e = length-append all made in let m = c.requires.many in omega arith in

@@ -48,3 +48,42 @@ returns-in-Err-Column-clause-wide c =
       },
       rw c.in-Err-Column.column-is (rw (c.in-Err-Column.field-0-is, first, second) at c.in-Err-Column.ensures.fail),
     )
+
+pub returns-in-Err-First-clause-lost : goal.returns-in-Err-First-clause-lost
+returns-in-Err-First-clause-lost c =
+    let first : c.index.result.now ≡ ray c.args.rays.now.rows.items c.args.i = get_or_read c.args.rays.now.rows.items c.args.i c.index.result.now c.requires.first c.index.ensures [] in
+    let second : c.index-2.result.now ≡ ray c.args.rays.now.rows.items c.args.j = get_or_read c.args.rays.now.rows.items c.args.j c.index-2.result.now c.requires.second c.index-2.ensures [] in
+    λ e. record {
+      pair = record {
+        both = c.meet_into.new.out;
+        meet = rw (c.row-first.ensures.value, c.row-second.ensures.value) at c.meet_into.ensures.members;
+        alone = λ o. let t = c.other_contains.ensures.1 o in let f = c.if-other_contains.false in cc;
+      };
+      lost = rw (c.in-Err-First.field-0-is, first, second) at (c.in-Err-First.ensures.lost e);
+    }
+
+pub returns-in-Err-Second-clause-lost : goal.returns-in-Err-Second-clause-lost
+returns-in-Err-Second-clause-lost c =
+    let first : c.index.result.now ≡ ray c.args.rays.now.rows.items c.args.i = get_or_read c.args.rays.now.rows.items c.args.i c.index.result.now c.requires.first c.index.ensures [] in
+    let second : c.index-2.result.now ≡ ray c.args.rays.now.rows.items c.args.j = get_or_read c.args.rays.now.rows.items c.args.j c.index-2.result.now c.requires.second c.index-2.ensures [] in
+    λ e. record {
+      pair = record {
+        both = c.meet_into.new.out;
+        meet = rw (c.row-first.ensures.value, c.row-second.ensures.value) at c.meet_into.ensures.members;
+        alone = λ o. let t = c.other_contains.ensures.1 o in let f = c.if-other_contains.false in cc;
+      };
+      lost = rw (c.in-Err-Second.field-0-is, first, second) at (c.in-Err-Second.ensures.lost e);
+    }
+
+pub returns-in-Err-Column-clause-lost : goal.returns-in-Err-Column-clause-lost
+returns-in-Err-Column-clause-lost c =
+    let first : c.index.result.now ≡ ray c.args.rays.now.rows.items c.args.i = get_or_read c.args.rays.now.rows.items c.args.i c.index.result.now c.requires.first c.index.ensures [] in
+    let second : c.index-2.result.now ≡ ray c.args.rays.now.rows.items c.args.j = get_or_read c.args.rays.now.rows.items c.args.j c.index-2.result.now c.requires.second c.index-2.ensures [] in
+    λ e. record {
+      pair = record {
+        both = c.meet_into.new.out;
+        meet = rw (c.row-first.ensures.value, c.row-second.ensures.value) at c.meet_into.ensures.members;
+        alone = λ o. let t = c.other_contains.ensures.1 o in let f = c.if-other_contains.false in cc;
+      };
+      lost = rw (c.in-Err-Column.field-0-is, first, second) at (c.in-Err-Column.ensures.lost e);
+    }

@@ -6,7 +6,7 @@ use Rattle.pm_dd.proofs.FarRays.{far_ahead, far_behind}
 use Rattle.pm_dd.proofs.Moving.{kept_few}
 use Rattle.pm_dd.proofs.Negatives.{row_end, row_more, row_read, row_skip, row_start}
 use Rattle.pm_dd.proofs.Stands.{above_of, below_of, to_of}
-use Rattle.pm_dd.proofs.StepFails.{pair_fail}
+use Rattle.pm_dd.proofs.StepFails.{pair_fail, pair_lost}
 use Rattle.pm_dd.proofs.pairs.paired_rays.Goals as goal
 use Rattle.pm_dd.specs.Building.{IsNoPair, IsPairRay, IsPassed}
 use Rattle.pm_dd.specs.Tables.{zero_set}
@@ -140,6 +140,18 @@ returns-in_err-ray-clause-wide c =
     let down = below_of (dot (row_at c.args.rows.now c.args.front) (ray c.args.rays.now.rows.items c.index-j.result.now)) (entry c.args.values.now c.index-j.result.now) (c.requires.stand.each c.index-j.result.now row.left.0.within) row.left.0.negative in
     let p = err_from_is_err_and c.from_residual-in_err-ray.result c.from_residual-in_err-ray.ensures.1 in
     rw (p.1, p.2) (pair_fail c.args.cols c.args.equations.now c.args.rows.now c.args.front c.args.rays.now.rows.items c.args.rays.now.zeros c.requires.table c.loop-i.i c.index-j.result.now li row.left.0.within up down c.in_err-ray.field-0.0 (rw next at c.in_err-ray.ensures.wide))
+
+pub returns-in_err-ray-clause-lost : goal.returns-in_err-ray-clause-lost
+returns-in_err-ray-clause-lost c = λ e.
+    let next : c.index-rows-front.result ≡ row_at c.args.rows.now c.args.front = get_or_read c.args.rows.now c.args.front c.index-rows-front.result c.requires.within c.index-rows-front.is [] in
+    let li : c.loop-i.i < length c.args.rays.now.rows.items = omega arith in
+    let ti = c.if-values-i-le0.false in
+    let up = above_of (dot (row_at c.args.rows.now c.args.front) (ray c.args.rays.now.rows.items c.loop-i.i)) (entry c.args.values.now c.loop-i.i) (c.requires.stand.each c.loop-i.i li) (omega (arith, ints)) in
+    let l : c.loop-k.k < length c.in_ok-negatives.negatives.items = omega arith in
+    let row = row_read c.args.cols c.args.equations.now c.args.rows.now c.args.front c.args.rays.now.rows.items c.args.values.now c.loop-i.i c.in_ok-negatives.negatives.items c.loop-k.next.items c.loop-k.zeros.rows c.loop-k.k c.index-j.result.now l c.index-j.ensures c.loop-k.invariant.built in
+    let down = below_of (dot (row_at c.args.rows.now c.args.front) (ray c.args.rays.now.rows.items c.index-j.result.now)) (entry c.args.values.now c.index-j.result.now) (c.requires.stand.each c.index-j.result.now row.left.0.within) row.left.0.negative in
+    let p = err_from_is_err_and c.from_residual-in_err-ray.result c.from_residual-in_err-ray.ensures.1 in
+    rw (p.1, p.2) (pair_lost c.args.cols c.args.equations.now c.args.rows.now c.args.front c.args.rays.now.rows.items c.args.rays.now.zeros c.requires.table c.loop-i.i c.index-j.result.now li row.left.0.within up down c.in_err-ray.field-0.0 (rw next at (c.in_err-ray.ensures.lost e)))
 
 pub too_many-requires-clause-listed : goal.too_many-requires-clause-listed
 too_many-requires-clause-listed c =
