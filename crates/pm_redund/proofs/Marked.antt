@@ -5,6 +5,7 @@ use Rattle.pm_vector.specs.Cones.{InCone}
 use Rattle.pm_vector.specs.Rows.{HasCols, Row}
 use Rattle.pm_vector.specs.Bases.{row_at}
 use Rattle.pm_geom.specs.StatedOrder.{rows_marked}
+use Rattle.pm_redund.specs.Keeping.{IsMore}
 use Rattle.std.proofs.Common.{arith, inl, inr, refl, subst, sym, ◌∙◌}
 use Rattle.std.proofs.lemmas.Bool.{cases_eq}
 use Rattle.std.proofs.lemmas.List.{get_or-set_other, get_or-set_same}
@@ -65,9 +66,6 @@ marked_few (true ∷ M) (x ∷ G) = let h = marked_few M G in omega arith
 marked_few (false ∷ M) (x ∷ G) = let h = marked_few M G in omega arith
 
 -- ---- more marks
-unfoldable pub IsMore : List Bool → List Bool → Type 0
-IsMore M N = (i : ℕ) → IsTrue (get_or M i false) → IsTrue (get_or N i false)
-
 pub more_among : (M N : List Bool) (G : List Row) → IsMore M N → (x : Row) → Among x (rows_marked true M G) → Among x (rows_marked true N G)
 unfolding IsMore
 more_among M N G f x i = let p = at_marked M G i in subst (λ (y : Row). Among y (rows_marked true N G)) p.is (marked_at N G p.i p.within (f p.i p.marked))
@@ -101,3 +99,8 @@ set_more M N k l f j t = elim (cases_eq j k) [
   | inl e ↦ absurd (set_off M k l (subst (λ (i : ℕ). IsTrue (get_or (slice_set M k false) i false)) e t))
   | inr ne ↦ set_keeps N k j false ne (f j (set_kept M k j false ne t))
 ]
+
+pub place_cols : (n : ℕ) (G : List Row) (i : ℕ) → i < length G → HasCols n G → length (row_at G i) ≡ n
+place_cols n [] i l h = absurd (omega arith)
+place_cols n (x ∷ G) zero l h = h.0
+place_cols n (x ∷ G) (suc i) l h = place_cols n G i (omega arith) h.1

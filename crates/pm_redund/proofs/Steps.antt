@@ -6,30 +6,22 @@ use Rattle.pm_vector.specs.Rows.{Row, opposite}
 use Rattle.pm_vector.proofs.Spans.{place_of}
 use Rattle.pm_vector.specs.Bases.{row_at}
 use Rattle.pm_geom.specs.StatedOrder.{rows_marked}
-use Rattle.pm_redund.proofs.Marked.{IsMore, at_marked, cone_of_marked, marked_at, marked_below, more_cone, set_keeps, set_kept, set_less, set_more, set_off}
-use Rattle.pm_redund.specs.Redundancy.{IsEnough, IsKeptRow, IsThinnedTo}
+use Rattle.pm_redund.proofs.Marked.{at_marked, cone_of_marked, marked_at, more_cone, set_keeps, set_kept, set_less, set_more, set_off}
+use Rattle.pm_redund.specs.Keeping.{IsMore, IsNeeded}
+use Rattle.pm_redund.specs.Redundancy.{IsEnough, IsKeptRow, IsRedundant, IsThinnedTo}
 use Rattle.pm_simplex.specs.Lineality.{MarkLines}
 use Rattle.std.proofs.Common.{arith, inl, inr, refl, subst, sym, ◌∙◌}
-use Rattle.std.proofs.Math.Seq.{get_or-append_seam}
 use Rattle.std.proofs.lemmas.Bool.{cases_eq}
-use Rattle.std.proofs.lemmas.List.{get_or-set_same, get_or_append_left, length-set, set-set}
-use Rattle.std.specs.Prelude.{Bool, IsTrue, List, [], false, get_or, length, not, slice_set, true, ℕ, ◌+◌, ◌++◌, ◌<◌, ◌↔◌, ◌∷◌, ◌≡◌}
+use Rattle.std.proofs.lemmas.List.{get_or-set_same, length-set, set-set}
+use Rattle.std.specs.Prelude.{Bool, IsTrue, List, false, get_or, length, not, slice_set, true, ℕ, ◌+◌, ◌<◌, ◌↔◌, ◌≡◌}
 
--- ---- marks of rows that are enough
-more_last : (M : List Bool) (b : Bool) → IsMore M (M ++ b ∷ [])
-unfolding IsMore
-more_last M b i t = get_or_append_left M (b ∷ []) false i (marked_below M i t) ∙ t
-
+-- ---- rows that are enough
 module _ (G L : List Row) where
-  pub grown : (M more : List Bool) (b : Bool) (i : ℕ) → i < length G → length M ≡ i → more ≡ M ++ not b ∷ [] → (IsTrue b ↔ InCone (rows_marked true M G) L (row_at G i)) → ((k : ℕ) → k < i → InCone (rows_marked true M G) L (row_at G k)) → (k : ℕ) → k < i + 1 → InCone (rows_marked true more G) L (row_at G k)
-  grown M more b i l many is h all k lk = rw is (elim (cases_eq k i) [
-    | inl e ↦ rw e (last b h)
-    | inr ne ↦ more_cone M (M ++ not b ∷ []) G L (more_last M (not b)) (all k (omega arith))
-  ])
-    where
-      last : (b : Bool) → (IsTrue b ↔ InCone (rows_marked true M G) L (row_at G i)) → InCone (rows_marked true (M ++ not b ∷ []) G) L (row_at G i)
-      last true h = more_cone M (M ++ false ∷ []) G L (more_last M false) (h.0 refl)
-      last false h = in_generator (marked_at (M ++ true ∷ []) G i l (subst (λ (j : ℕ). IsTrue (get_or (M ++ true ∷ []) j false)) many (get_or-append_seam M true [] false)))
+  pub settled_more : (M N : List Bool) (i : ℕ) → IsMore M N → InCone (rows_marked true N G) L (row_at G i) → ((k : ℕ) → k < i → InCone (rows_marked true M G) L (row_at G k)) → (k : ℕ) → k < i + 1 → InCone (rows_marked true N G) L (row_at G k)
+  settled_more M N i more here all k l = elim (cases_eq k i) [
+    | inl e ↦ subst (λ (j : ℕ). InCone (rows_marked true N G) L (row_at G j)) (sym e) here
+    | inr ne ↦ more_cone M N G L more (all k (omega arith))
+  ]
 
   pub grown_enough : (M : List Bool) → length M ≡ length G → ((k : ℕ) → k < length G → InCone (rows_marked true M G) L (row_at G k)) → IsEnough G L M
   grown_enough M many all = record {
@@ -55,6 +47,15 @@ module _ (G L : List Row) where
       enough = t.enough;
       needed = λ k l h. elim (cases_eq k i) [
         | inl e ↦ absurd (never (subst (λ (j : ℕ). IsKeptRow lines M j) e h))
+        | inr ne ↦ t.needed k (omega arith) h
+      ];
+    }
+
+    pub thinned_needed : (M : List Bool) (i : ℕ) → IsNeeded G L i → IsThinnedTo G L lines i M → IsThinnedTo G L lines (i + 1) M
+    thinned_needed M i needed t = record {
+      enough = t.enough;
+      needed = λ k l h. elim (cases_eq k i) [
+        | inl e ↦ subst (λ (j : ℕ). ¬ (IsRedundant G L M j)) (sym e) (needed M)
         | inr ne ↦ t.needed k (omega arith) h
       ];
     }
@@ -112,6 +113,6 @@ module _ (G L : List Row) where
                 t.needed k (omega arith) (set_kept M i k true ne hk.0, hk.1) (more_cone (slice_set (slice_set M i true) k false) (slice_set M k false) G L (set_more (slice_set M i true) M k (let b = below in omega arith) down) r)
           ]
 
-      pub thinned_try : (b : Bool) (N : List Bool) → N ≡ slice_set (slice_set M i false) i (not b) → (IsTrue b ↔ InCone (rows_marked true (slice_set M i false) G) L (row_at G i)) → IsThinnedTo G L lines (i + 1) N
-      thinned_try true N is h = rw (is, set-set M i false false) (dropped (h.0 refl))
-      thinned_try false N is h = rw (is, set-set M i false true) (stayed (λ r. let e : false ≡ true = h.1 r in cc))
+      pub thinned_try : (b : Bool) (N : List Bool) → N ≡ slice_set M i (not b) → (IsTrue b ↔ InCone (rows_marked true (slice_set M i false) G) L (row_at G i)) → IsThinnedTo G L lines (i + 1) N
+      thinned_try true N is h = rw is (dropped (h.0 refl))
+      thinned_try false N is h = rw is (stayed (λ r. let e : false ≡ true = h.1 r in cc))

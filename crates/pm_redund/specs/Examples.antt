@@ -6,6 +6,7 @@ use Rattle.pm_incidence.specs.ThinExamples.{diagonal, large, larger, x_axis, x_t
 use Rattle.pm_incidence.specs.declared.fails.ThinFail.TheVariants.{Many, Memory, Wide}
 use Rattle.pm_object_type.specs.declared.object_type.ObjectType.TheVariants.{Cone, Polytope}
 use Rattle.pm_simplex.specs.Generated.{equations_of, lifted, no_objective, tied, turned}
+use Rattle.pm_redund.specs.Keeping.{AreNeeded, IsAlone, IsMetAfter, IsMore, products}
 use Rattle.pm_redund.specs.Redundancy.{AreKeptPlaces, IsEnough, IsRedundant, IsRowsFail, IsRedundancyFail, IsThinnedTo, LeavesNoPoint}
 use Rattle.pm_simplex.specs.Lineality.{MarkLines, line_group}
 use Rattle.std.specs.Prelude.{Bool, List, [], false, true, ◌∷◌, ◌≡◌}
@@ -65,3 +66,20 @@ pub record RefusalsAreRead : Type 0 where
   pub product : ¬ (IsRedundancyFail 2 (large ∷ []) [] (Wide (E4 large larger)))
   pub many : ¬ (IsRedundancyFail 2 (large ∷ []) [] (Many (E5Rows [])))
   pub few_rows : ¬ (IsRowsFail Cone 2 (large ∷ []) [] (Many (E5Rows (0 ∷ []))))
+
+pub record KeepingIsRead : Type 0 where
+  -- the second marks have those of the first and one more, and not the other way round
+  pub more : IsMore (bits true false false) (bits true false true)
+  pub not_more : ¬ (IsMore (bits true false true) (bits true false false))
+  -- (1, 0) and (0, 1) are needed, and (1, 1) is not
+  pub needed : AreNeeded fan_of_three [] (bits true false true)
+  pub not_needed : ¬ (AreNeeded fan_of_three [] (bits false true false))
+  -- (-1, 1) has these products
+  pub levels : products (negsuc 0 ∷ pos 1 ∷ []) fan_of_three ≡ triple (negsuc 0) (pos 0) (pos 1)
+  -- so on the way from (1, 1) it is (1, 0) that comes below 0 alone
+  pub alone : IsAlone (triple (negsuc 0) (pos 0) (pos 1)) (triple (pos 1) (pos 2) (pos 1)) 0
+  -- a row where both are 0 never does
+  pub never : IsMetAfter (negsuc 0 ∷ pos 0 ∷ []) (pos 1 ∷ pos 0 ∷ []) 0 1
+  -- and none is alone where two come below 0 at once, or where the height is 0
+  pub tied : ¬ (IsAlone (negsuc 0 ∷ negsuc 0 ∷ []) (pos 1 ∷ pos 1 ∷ []) 0)
+  pub low : ¬ (IsAlone (negsuc 0 ∷ []) (pos 0 ∷ []) 0)

@@ -1,2 +1,3 @@
 pub mod Redundancy
+pub mod Keeping
 pub mod Examples

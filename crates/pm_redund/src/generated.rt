@@ -3,12 +3,14 @@
 ghost use Rattle.pm_vector.specs.Cones.{InCone};
 ghost use Rattle.pm_vector.specs.Numbers.{InRange};
 ghost use Rattle.pm_vector.specs.Rows.{HasCols};
+ghost use Rattle.pm_vector.specs.Bases.{row_at};
 ghost use Rattle.pm_geom.specs.StatedOrder.{rows_marked};
 ghost use Rattle.pm_redund.specs.Redundancy.{IsProgramFail};
+ghost use Rattle.pm_redund.specs.Keeping.{IsChosen};
 ghost use Rattle.pm_simplex.specs.Generated.{equations_of, lifted, no_objective, turned};
-ghost use Rattle.std.specs.List.{Contains};
-ghost use Rattle.std.specs.Prelude.{IfErr, IfOk, IsTrue, length, pos, true, ◌+◌, ◌<◌, ◌^◌, ◌∷◌, ◌≡◌, ◌≤◌, ◌↔◌};
+ghost use Rattle.std.specs.Prelude.{IfErr, IfNone, IfOk, IfSome, length, pos, true, ◌+◌, ◌<◌, ◌^◌, ◌∷◌, ◌≡◌, ◌≤◌};
 
+use crate::chosen::Chosen;
 use pm_fraction::Fraction;
 use pm_incidence::ThinFail;
 use pm_simplex::{LpAnswer, LpFail};
@@ -17,7 +19,7 @@ use pm_wide_programs::maximise_rows_by;
 use std::alloc::{AllocError, Global};
 
 /// A number, and then the entries of a row.
-fn headed(alloc: Global, first: i128, row: &Ints) -> Result<Ints, AllocError>
+pub(crate) fn headed(alloc: Global, first: i128, row: &Ints) -> Result<Ints, AllocError>
     requires { InRange first }
     ensures { IfOk result (λ v. v ≡ first ∷ row.now) }
 {
@@ -30,7 +32,11 @@ fn headed(alloc: Global, first: i128, row: &Ints) -> Result<Ints, AllocError>
 }
 
 /// The marked rows as rows of a program. Rows past the marks have none.
-fn lifted_rows(alloc: Global, rows: &[Ints], marks: &[bool]) -> Result<Vec<Ints>, AllocError>
+pub(crate) fn lifted_rows(
+    alloc: Global,
+    rows: &[Ints],
+    marks: &[bool],
+) -> Result<Vec<Ints>, AllocError>
     requires { length marks.now ≤ length rows.now }
     ensures { IfOk result (λ v. v.items ≡ lifted (rows_marked true marks.now rows.now)) }
 {
@@ -67,36 +73,37 @@ fn no_objective(alloc: Global, cols: usize) -> Result<Vec<Fraction>, AllocError>
     vec![in alloc; Fraction::zero(); cols]
 }
 
-/// Whether one of the rows, or its opposite, is in the cone of the marked rows and the lines; by wide numbers too, where
-/// these are asked for.
-pub(crate) fn is_generated(
+/// A point of the program of the row at a place, or of its opposite, over the chosen rows: there is none exactly where
+/// these and the lines generate it. By wide numbers too, where these are asked for.
+pub(crate) fn point_of(
     alloc: Global,
     cols: usize,
     rows: &[Ints],
     lines: &[Ints],
-    marks: &[bool],
-    row: &Ints,
+    chosen: &Chosen,
+    i: usize,
     opposed: bool,
     wide: bool,
-) -> Result<bool, ThinFail>
+) -> Result<Option<Vec<Fraction>>, ThinFail>
     requires row_cols { HasCols cols rows.now }
     requires line_cols { HasCols cols lines.now }
-    requires listed { Contains rows.now row.now }
+    requires place { i < length rows.now }
     requires few_rows { length rows.now ≤ 2 ^ 30 }
     requires few_lines { length lines.now < 2 ^ 30 }
     requires few_columns { cols < 2 ^ 30 }
-    requires marks { length marks.now ≤ length rows.now }
-    ensures generated { IfOk result (λ b. IsTrue b
-        ↔ InCone (rows_marked true marks.now rows.now) lines.now (turned opposed row.now)) }
+    requires chosen { IsChosen rows.now chosen.now }
+    ensures generated { IfOk result (λ p. IfNone p
+        (InCone (rows_marked true chosen.now.marks.items rows.now) lines.now (turned opposed (row_at rows.now i)))) }
+    ensures apart { IfOk result (λ p. IfSome p (λ _.
+        ¬ (InCone (rows_marked true chosen.now.marks.items rows.now) lines.now (turned opposed (row_at rows.now i))))) }
     ensures failed { IfErr result (IsProgramFail cols rows.now lines.now) }
 {
-    let kept = lifted_rows(alloc, rows, marks)?;
-    let ties = equations(alloc, lines, row, opposed)?;
+    let ties = equations(alloc, lines, &rows[i], opposed)?;
     let objective = no_objective(alloc, cols + 1)?;
-    match maximise_rows_by(alloc, &kept, &ties, &objective, wide) {
-        Ok(LpAnswer::Infeasible { .. }) => Ok(true),
-        Ok(LpAnswer::Optimal { .. }) => Ok(false),
-        Ok(LpAnswer::Unbounded { .. }) => Ok(false),
+    match maximise_rows_by(alloc, &chosen.lifted, &ties, &objective, wide) {
+        Ok(LpAnswer::Infeasible { .. }) => Ok(None),
+        Ok(LpAnswer::Optimal { point, .. }) => Ok(Some(point)),
+        Ok(LpAnswer::Unbounded { point, .. }) => Ok(Some(point)),
         Err(LpFail::Wide(evidence)) => Err(ThinFail::Wide(evidence)),
         Err(LpFail::Memory) => Err(ThinFail::Memory),
     }

@@ -6,13 +6,15 @@ ghost use Rattle.pm_vector.specs.Bases.{IsEchelonBasis};
 ghost use Rattle.pm_geom.specs.Cones.{IsValid};
 ghost use Rattle.pm_geom.specs.Generators.{AreGenerators};
 ghost use Rattle.pm_incidence.specs.Thinning.{half_spaces};
-ghost use Rattle.pm_redund.specs.Redundancy.{IsEnough, IsHalvesFail, IsRowsFail};
+ghost use Rattle.pm_redund.specs.Redundancy.{IsHalvesFail, IsRowsFail};
+ghost use Rattle.pm_redund.specs.Keeping.{IsSupport};
 ghost use Rattle.pm_simplex.specs.Lineality.{MarkLines};
 ghost use Rattle.pm_types.specs.Right.{CutsOutOf};
 ghost use Rattle.std.specs.List.{All};
-ghost use Rattle.std.specs.Prelude.{IfErr, IfOk, IsTrue, List, false, get_or, length, pred, ℕ, ◌<◌, ◌^◌, ◌≡◌, ◌≤◌, ◌↔◌, ◌≢◌};
+ghost use Rattle.std.specs.Prelude.{IfErr, IfOk, IfSome, IsTrue, List, false, get_or, length, pred, ℕ, ◌<◌, ◌^◌, ◌≡◌, ◌≤◌, ◌↔◌, ◌≢◌};
 
-use crate::keep::{enough_marks, line_marks};
+use crate::enough::enough_rows;
+use crate::support::{Lineality, lineality_of};
 use crate::thinned::kept_of;
 use pm_geom::descriptions::Facets;
 use pm_geom::{Evidence, Places};
@@ -49,8 +51,7 @@ fn thin_halves(
     cols: usize,
     halves: &[Ints],
     equations: &[Ints],
-    line_marks: &[bool],
-    enough: Vec<bool>,
+    lines: &Lineality,
     wide: bool,
 ) -> Result<Facets, ThinFail>
     requires half_cols { HasCols cols halves.now }
@@ -58,8 +59,8 @@ fn thin_halves(
     requires few_halves { length halves.now ≤ 2 ^ 30 }
     requires few_equations { length equations.now < 2 ^ 30 }
     requires few_columns { cols < 2 ^ 30 }
-    requires marked { MarkLines halves.now equations.now line_marks.now }
-    requires enough { IsEnough halves.now equations.now enough.items }
+    requires marked { MarkLines halves.now equations.now lines.now.marks.items }
+    requires support { IfSome lines.now.support (IsSupport cols halves.now equations.now) }
     ensures generators { IfOk result (λ f.
         AreGenerators cols (InCone halves.now equations.now) f.facets.items f.hull.items) }
     ensures cols { IfOk result (λ f. HasCols cols f.facets.items) }
@@ -67,7 +68,8 @@ fn thin_halves(
     ensures echelon { IfOk result (λ f. (P : List ℕ) × IsEchelonBasis cols f.hull.items P) }
     ensures failed { IfErr result (IsHalvesFail cols halves.now equations.now) }
 {
-    let kept = kept_of(alloc, cols, halves, equations, line_marks, enough, wide)?;
+    let enough = enough_rows(alloc, cols, halves, equations, lines, wide)?;
+    let kept = kept_of(alloc, cols, halves, equations, &lines.marks, enough, wide)?;
     if kept.places.len() > MOST_ROWS {
         return Err(too_many(alloc, &kept.places)?);
     }
@@ -108,13 +110,12 @@ pub fn thin_rows(
     ensures failed { IfErr result (IsRowsFail of cols rows.now equations.now) }
 {
     let halves = half_spaces(alloc, of, cols, rows)?;
-    let enough = enough_marks(alloc, cols, &halves, equations, wide)?;
-    let lines = line_marks(alloc, cols, &halves, equations, &enough, wide)?;
-    if of == ObjectType::Polytope && is_last_marked(&lines) {
+    let lines = lineality_of(alloc, cols, &halves, equations, wide)?;
+    if of == ObjectType::Polytope && is_last_marked(&lines.marks) {
         return Ok(Facets {
             facets: Vec::new(alloc),
             hull: unit_rows(alloc, cols)?,
         });
     }
-    thin_halves(alloc, cols, &halves, equations, &lines, enough, wide)
+    thin_halves(alloc, cols, &halves, equations, &lines, wide)
 }

@@ -1,65 +1,17 @@
-// Which rows are kept: some that are enough, and of these none that the others generate.
+// Which rows are kept: of those that are enough none that the others generate.
 
 ghost use Rattle.pm_vector.specs.Rows.{HasCols};
 ghost use Rattle.pm_redund.specs.Redundancy.{IsProgramFail};
-ghost use Rattle.pm_redund.specs.Redundancy.{AreKeptPlaces, IsEnough, IsKeptRow, IsThinnedTo};
-ghost use Rattle.pm_simplex.specs.Lineality.{MarkLines};
+ghost use Rattle.pm_redund.specs.Redundancy.{AreKeptPlaces, IsEnough, IsKeptRow, IsRedundant, IsThinnedTo};
+ghost use Rattle.pm_redund.specs.Keeping.{AreNeeded};
 ghost use Rattle.std.specs.Prelude.{IfErr, IfOk, IsTrue, OnOk, length, ◌+◌, ◌<◌, ◌^◌, ◌≡◌, ◌≤◌, ◌↔◌};
 
-use crate::generated::is_generated;
+use crate::chosen::chosen_of;
+use crate::enough::Enough;
+use crate::generated::point_of;
 use pm_incidence::ThinFail;
 use pm_vector::Ints;
 use std::alloc::{AllocError, Global};
-
-/// Marks of rows that generate all: a row is marked where the marked ones before it do not generate it.
-pub(crate) fn enough_marks(
-    alloc: Global,
-    cols: usize,
-    rows: &[Ints],
-    lines: &[Ints],
-    wide: bool,
-) -> Result<Vec<bool>, ThinFail>
-    requires row_cols { HasCols cols rows.now }
-    requires line_cols { HasCols cols lines.now }
-    requires few_rows { length rows.now ≤ 2 ^ 30 }
-    requires few_lines { length lines.now < 2 ^ 30 }
-    requires few_columns { cols < 2 ^ 30 }
-    ensures enough { IfOk result (λ m. IsEnough rows.now lines.now m.items) }
-    ensures failed { IfErr result (IsProgramFail cols rows.now lines.now) }
-{
-    let mut marks = Vec::new(alloc);
-    for row in rows {
-        let generated = is_generated(alloc, cols, rows, lines, &marks, row, false, wide)?;
-        marks.push(!generated)?;
-    }
-    Ok(marks)
-}
-
-/// Marks of the rows whose opposite is in the cone of all, which the rows that are enough generate.
-pub(crate) fn line_marks(
-    alloc: Global,
-    cols: usize,
-    rows: &[Ints],
-    lines: &[Ints],
-    enough: &[bool],
-    wide: bool,
-) -> Result<Vec<bool>, ThinFail>
-    requires row_cols { HasCols cols rows.now }
-    requires line_cols { HasCols cols lines.now }
-    requires few_rows { length rows.now ≤ 2 ^ 30 }
-    requires few_lines { length lines.now < 2 ^ 30 }
-    requires few_columns { cols < 2 ^ 30 }
-    requires enough { IsEnough rows.now lines.now enough.now }
-    ensures marked { IfOk result (λ m. MarkLines rows.now lines.now m.items) }
-    ensures failed { IfErr result (IsProgramFail cols rows.now lines.now) }
-{
-    let mut marks = Vec::new(alloc);
-    for row in rows {
-        let generated = is_generated(alloc, cols, rows, lines, enough, row, true, wide)?;
-        marks.push(generated)?;
-    }
-    Ok(marks)
-}
 
 /// Whether the row at a place is marked and is outside of the lineality.
 fn is_kept(line_marks: &[bool], marks: &[bool], i: usize) -> bool
@@ -70,13 +22,41 @@ fn is_kept(line_marks: &[bool], marks: &[bool], i: usize) -> bool
     marks[i] && !line_marks[i]
 }
 
-/// Takes the mark of a kept row away where it is redundant.
+/// Whether other marked rows generate the row at a place.
+fn is_redundant(
+    alloc: Global,
+    cols: usize,
+    rows: &[Ints],
+    lines: &[Ints],
+    marks: &[bool],
+    i: usize,
+    wide: bool,
+) -> Result<bool, ThinFail>
+    requires row_cols { HasCols cols rows.now }
+    requires line_cols { HasCols cols lines.now }
+    requires few_rows { length rows.now ≤ 2 ^ 30 }
+    requires few_lines { length lines.now < 2 ^ 30 }
+    requires few_columns { cols < 2 ^ 30 }
+    requires marks { length marks.now ≡ length rows.now }
+    requires place { i < length rows.now }
+    ensures redundant { IfOk result (λ b. IsTrue b ↔ IsRedundant rows.now lines.now marks.now i) }
+    ensures failed { IfErr result (IsProgramFail cols rows.now lines.now) }
+{
+    let mut others = Vec::from_slice(alloc, marks)?;
+    others[i] = false;
+    let chosen = chosen_of(alloc, rows, others)?;
+    let point = point_of(alloc, cols, rows, lines, &chosen, i, false, wide)?;
+    Ok(point.is_none())
+}
+
+/// Takes the mark of a kept row away where it is redundant: those that are surely needed stay.
 fn thin_at(
     alloc: Global,
     cols: usize,
     rows: &[Ints],
     lines: &[Ints],
     line_marks: &[bool],
+    sure: &[bool],
     marks: &mut Vec<bool>,
     i: usize,
     wide: bool,
@@ -87,17 +67,16 @@ fn thin_at(
     requires few_lines { length lines.now < 2 ^ 30 }
     requires few_columns { cols < 2 ^ 30 }
     requires line_marks { length line_marks.now ≡ length rows.now }
+    requires sure { AreNeeded rows.now lines.now sure.now }
     requires place { i < length rows.now }
     requires thinned { IsThinnedTo rows.now lines.now line_marks.now i marks.old.items }
     ensures thinned { OnOk result (IsThinnedTo rows.now lines.now line_marks.now (i + 1) marks.new.items) }
     ensures failed { IfErr result (IsProgramFail cols rows.now lines.now) }
 {
-    if !is_kept(line_marks, marks, i) {
+    if sure[i] || !is_kept(line_marks, marks, i) {
         return Ok(());
     }
-    marks[i] = false;
-    let redundant = is_generated(alloc, cols, rows, lines, marks, &rows[i], false, wide)?;
-    marks[i] = !redundant;
+    marks[i] = !is_redundant(alloc, cols, rows, lines, marks, i, wide)?;
     Ok(())
 }
 
@@ -108,7 +87,7 @@ pub(crate) fn thin_marks(
     rows: &[Ints],
     lines: &[Ints],
     line_marks: &[bool],
-    enough: Vec<bool>,
+    enough: Enough,
     wide: bool,
 ) -> Result<Vec<bool>, ThinFail>
     requires row_cols { HasCols cols rows.now }
@@ -117,14 +96,18 @@ pub(crate) fn thin_marks(
     requires few_lines { length lines.now < 2 ^ 30 }
     requires few_columns { cols < 2 ^ 30 }
     requires line_marks { length line_marks.now ≡ length rows.now }
-    requires enough { IsEnough rows.now lines.now enough.items }
+    requires enough { IsEnough rows.now lines.now enough.chosen.marks.items }
+    requires needed { AreNeeded rows.now lines.now enough.sure.items }
     ensures thinned { IfOk result (λ m.
         IsThinnedTo rows.now lines.now line_marks.now (length rows.now) m.items) }
     ensures failed { IfErr result (IsProgramFail cols rows.now lines.now) }
 {
-    let mut marks = enough;
+    let Enough { chosen, sure } = enough;
+    let mut marks = chosen.marks;
     for i in 0..rows.len() {
-        thin_at(alloc, cols, rows, lines, line_marks, &mut marks, i, wide)?;
+        thin_at(
+            alloc, cols, rows, lines, line_marks, &sure, &mut marks, i, wide,
+        )?;
     }
     Ok(marks)
 }

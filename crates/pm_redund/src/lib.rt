@@ -2,12 +2,17 @@
 //! among points, and the facet rows among inequalities. It knows nothing of objects, rules and clients.
 #![tactic(auto)]
 
-ghost use Rattle.pm_redund.specs.Examples.{ProgramsAreRead, RedundancyIsRead, RefusalsAreRead};
+ghost use Rattle.pm_redund.specs.Examples.{KeepingIsRead, ProgramsAreRead, RedundancyIsRead, RefusalsAreRead};
 
+mod chosen;
+mod enough;
 mod generated;
 mod halves;
 mod keep;
+mod levels;
 mod rays;
+mod shot;
+mod support;
 mod thinned;
 
 pub use halves::thin_rows;
@@ -27,4 +32,9 @@ pub fn example_redundancy()
 /// Polytopes without a point, and what refusals show.
 pub fn example_refusals()
     ensures { RefusalsAreRead }
+{}
+
+/// Rows that are met alone on the way from one functional to another, and rows that are needed.
+pub fn example_keeping()
+    ensures { KeepingIsRead }
 {}

@@ -7,7 +7,8 @@ ghost use Rattle.pm_geom.specs.Generators.{AreGenerators};
 ghost use Rattle.pm_redund.specs.Redundancy.{IsRedundancyFail};
 ghost use Rattle.std.specs.Prelude.{IfErr, IfOk, List, length, ℕ, ◌<◌, ◌^◌, ◌≤◌};
 
-use crate::keep::{enough_marks, line_marks};
+use crate::enough::enough_rows;
+use crate::support::lineality_of;
 use crate::thinned::kept_of;
 use pm_geom::descriptions::Generators;
 use pm_incidence::{ThinFail, thinned_rows};
@@ -41,9 +42,9 @@ pub fn thin_rays(
     ensures echelon { IfOk result (λ g. (P : List ℕ) × IsEchelonBasis cols g.lineality.items P) }
     ensures failed { IfErr result (IsRedundancyFail cols rays.now lineality.now) }
 {
-    let enough = enough_marks(alloc, cols, rays, lineality, wide)?;
-    let lines = line_marks(alloc, cols, rays, lineality, &enough, wide)?;
-    let kept = kept_of(alloc, cols, rays, lineality, &lines, enough, wide)?;
+    let lines = lineality_of(alloc, cols, rays, lineality, wide)?;
+    let enough = enough_rows(alloc, cols, rays, lineality, &lines, wide)?;
+    let kept = kept_of(alloc, cols, rays, lineality, &lines.marks, enough, wide)?;
     let thin = thinned_rows(alloc, cols, rays, &kept.basis, &kept.places, wide)?;
     Ok(Generators {
         rays: thin,

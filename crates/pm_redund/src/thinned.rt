@@ -2,9 +2,11 @@
 
 ghost use Rattle.pm_vector.specs.Rows.{HasCols};
 ghost use Rattle.pm_redund.specs.Redundancy.{AreIrredundantPlaces, IsEnough, IsRedundancyFail};
+ghost use Rattle.pm_redund.specs.Keeping.{AreNeeded};
 ghost use Rattle.pm_simplex.specs.Lineality.{MarkLines};
 ghost use Rattle.std.specs.Prelude.{IfErr, IfOk, length, ◌<◌, ◌^◌, ◌≤◌};
 
+use crate::enough::Enough;
 use crate::keep::{kept_places, thin_marks};
 use pm_elim::echelon;
 use pm_incidence::{Kept, ThinFail, with_marked};
@@ -18,7 +20,7 @@ pub(crate) fn kept_of(
     rows: &[Ints],
     lines: &[Ints],
     line_marks: &[bool],
-    enough: Vec<bool>,
+    enough: Enough,
     wide: bool,
 ) -> Result<Kept, ThinFail>
     requires row_cols { HasCols cols rows.now }
@@ -27,7 +29,8 @@ pub(crate) fn kept_of(
     requires few_lines { length lines.now < 2 ^ 30 }
     requires few_columns { cols < 2 ^ 30 }
     requires marked { MarkLines rows.now lines.now line_marks.now }
-    requires enough { IsEnough rows.now lines.now enough.items }
+    requires enough { IsEnough rows.now lines.now enough.chosen.marks.items }
+    requires needed { AreNeeded rows.now lines.now enough.sure.items }
     ensures kept { IfOk result (λ k.
         AreIrredundantPlaces cols rows.now lines.now k.basis.rows k.basis.pivots k.places.items) }
     ensures few { IfOk result (λ k. length k.places.items ≤ length rows.now) }

@@ -11,9 +11,9 @@ use Rattle.std.specs.List.{range_with_len}
 pub returns-then-is_last_marked-clause-facets : goal.returns-then-is_last_marked-clause-facets
 returns-then-is_last_marked-clause-facets c = λ G L hG hL cut.
     let polytope : c.args.of ≡ Polytope = search rules in
-    let marked = rw (c.deref-2.ensures.value, c.in_ok-halves.ensures) at c.in_ok-lines.ensures.marked in
+    let marked = rw (c.deref.ensures.value, c.in_ok-halves.ensures) at c.in_ok-lines.ensures.marked in
     let last = rw c.deref-then-eq.ensures.value at (c.is_last_marked.ensures.0 c.if-is_last_marked.true) in
-    let none = (last_marked c.args.cols c.requires.some_columns c.args.rows.now c.args.equations.now c.requires.row_cols c.requires.equation_cols c.args.of c.in_ok-lines.lines.items polytope marked).0 last in
+    let none = (last_marked c.args.cols c.requires.some_columns c.args.rows.now c.args.equations.now c.requires.row_cols c.requires.equation_cols c.args.of c.in_ok-lines.lines.marks.items polytope marked).0 last in
     rw (c.new.ensures.items, c.in_ok-unit_rows.ensures) (no_facets c.args.cols c.requires.some_columns c.args.rows.now c.args.equations.now c.requires.row_cols c.requires.equation_cols c.args.of (polytope, none) G L cut)
 
 pub returns-then-is_last_marked-clause-echelon : goal.returns-then-is_last_marked-clause-echelon
@@ -21,28 +21,28 @@ returns-then-is_last_marked-clause-echelon c = (range_with_len 0 c.args.cols, rw
 
 pub returns-clause-facets : goal.returns-clause-facets
 returns-clause-facets c =
-    let marked = rw (c.deref-2.ensures.value, c.in_ok-halves.ensures) at c.in_ok-lines.ensures.marked in
+    let marked = rw (c.deref.ensures.value, c.in_ok-halves.ensures) at c.in_ok-lines.ensures.marked in
     let point : ¬ (LeavesNoPoint c.args.of c.args.cols c.args.rows.now c.args.equations.now) = λ h. elim c.else-eq.branch [
       | else-eq-via-then-eq+else-is_last_marked w ↦
-          let last = (last_marked c.args.cols c.requires.some_columns c.args.rows.now c.args.equations.now c.requires.row_cols c.requires.equation_cols c.args.of c.in_ok-lines.lines.items h.0 marked).1 h.1 in
+          let last = (last_marked c.args.cols c.requires.some_columns c.args.rows.now c.args.equations.now c.requires.row_cols c.requires.equation_cols c.args.of c.in_ok-lines.lines.marks.items h.0 marked).1 h.1 in
           let e : false ≡ true = rw w.if-is_last_marked.false at (w.is_last_marked.ensures.1 (rw w.deref-then-eq.ensures.value last)) in
           cc
       | else-eq-via-else-eq w ↦ let never : c.args.of ≢ Polytope = search rules in never h.0
     ] in
     if_ok c.thin_halves.result
     (λ f g G L hG hL cut. facets_of c.args.cols c.requires.some_columns c.args.rows.now c.args.equations.now c.requires.row_cols c.requires.equation_cols G L hG hL c.args.of point cut f.facets.items f.hull.items g)
-    (rw (c.deref-4.ensures.value, c.in_ok-halves.ensures) at c.thin_halves.ensures.generators)
+    (rw (c.deref-2.ensures.value, c.in_ok-halves.ensures) at c.thin_halves.ensures.generators)
 
 pub returns-clause-failed : goal.returns-clause-failed
 returns-clause-failed c =
-    let marked = rw (c.deref-2.ensures.value, c.in_ok-halves.ensures) at c.in_ok-lines.ensures.marked in
+    let marked = rw (c.deref.ensures.value, c.in_ok-halves.ensures) at c.in_ok-lines.ensures.marked in
     let point : ¬ (LeavesNoPoint c.args.of c.args.cols c.args.rows.now c.args.equations.now) = λ h. elim c.else-eq.branch [
       | else-eq-via-then-eq+else-is_last_marked w ↦
-          let last = (last_marked c.args.cols c.requires.some_columns c.args.rows.now c.args.equations.now c.requires.row_cols c.requires.equation_cols c.args.of c.in_ok-lines.lines.items h.0 marked).1 h.1 in
+          let last = (last_marked c.args.cols c.requires.some_columns c.args.rows.now c.args.equations.now c.requires.row_cols c.requires.equation_cols c.args.of c.in_ok-lines.lines.marks.items h.0 marked).1 h.1 in
           let e : false ≡ true = rw w.if-is_last_marked.false at (w.is_last_marked.ensures.1 (rw w.deref-then-eq.ensures.value last)) in
           cc
       | else-eq-via-else-eq w ↦ let never : c.args.of ≢ Polytope = search rules in never h.0
     ] in
     if_err c.thin_halves.result
     (rows_of_halves c.args.of c.args.cols c.args.rows.now c.args.equations.now (many_facets c.args.cols c.requires.some_columns c.args.rows.now c.args.equations.now c.requires.row_cols c.requires.equation_cols c.args.of point))
-    (rw (c.deref-4.ensures.value, c.in_ok-halves.ensures) at c.thin_halves.ensures.failed)
+    (rw (c.deref-2.ensures.value, c.in_ok-halves.ensures) at c.thin_halves.ensures.failed)

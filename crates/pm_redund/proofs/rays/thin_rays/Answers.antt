@@ -14,18 +14,18 @@ returns-in_err-thin-clause-failed c =
 pub returns-clause-generators : goal.returns-clause-generators
 returns-clause-generators c =
     let k = rw (sym c.kept.view_is) at c.in_ok-kept.ensures.kept in
-    let s = rw c.deref-3.ensures.value at c.in_ok-thin.ensures.thinned in
+    let s = rw c.deref-2.ensures.value at c.in_ok-thin.ensures.thinned in
     thin_generators c.args.cols c.args.rays.now c.args.lineality.now c.requires.ray_cols c.requires.line_cols _ _ _ k c.in_ok-thin.thin.items s
 
 pub returns-clause-cols : goal.returns-clause-cols
 returns-clause-cols c =
     let k = rw (sym c.kept.view_is) at c.in_ok-kept.ensures.kept in
-    let s = rw c.deref-3.ensures.value at c.in_ok-thin.ensures.thinned in
+    let s = rw c.deref-2.ensures.value at c.in_ok-thin.ensures.thinned in
     thinned_cols c.args.cols c.args.rays.now c.args.lineality.now c.requires.ray_cols c.requires.line_cols _ _ _ k c.in_ok-thin.thin.items s
 
 pub returns-clause-few : goal.returns-clause-few
 returns-clause-few c =
-    let s = rw c.deref-3.ensures.value at c.in_ok-thin.ensures.thinned in
+    let s = rw c.deref-2.ensures.value at c.in_ok-thin.ensures.thinned in
     let e = thinned_length _ _ c.args.rays.now _ c.in_ok-thin.thin.items s in
     let f = rw (sym c.kept.view_is) at c.in_ok-kept.ensures.few in
     omega arith
