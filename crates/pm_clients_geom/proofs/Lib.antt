@@ -1,4 +1,5 @@
 pub mod RowLists
+pub mod FailedLost
 pub mod FoundDims
 pub mod Halves
 pub mod NullMatrices
@@ -6,9 +7,11 @@ pub mod PutMatrices
 pub mod Examples
 pub mod PutRays
 pub mod FoundHulls
+pub mod LostParts
 pub mod FoundPlaced
 pub mod FoundThinned
 pub mod FailingThinned
 pub mod PointLaws
 pub mod RightRows
 mod RedundancyExamples
+mod LostListExamples

@@ -13,3 +13,4 @@ pub mod Points
 pub mod Laws
 pub mod Examples
 pub mod RedundancyExamples
+pub mod LostListExamples

@@ -3,6 +3,7 @@ use Rattle.pm_vector.specs.Rows.{Row}
 use Rattle.pm_vector.specs.Numbers.{Ratio}
 use Rattle.pm_client.specs.Sound.{IsListOf, ReadsMatrix}
 use Rattle.pm_elim.specs.Evidence.{NoEvidence}
+use Rattle.pm_elim.specs.Lost.{IsLost, IsLostOnExtended}
 use Rattle.pm_elim.specs.declared.evidence.ElimList.{ElimList}
 use Rattle.pm_matrix.specs.FractionRows.{ArePrimitiveRowsOf}
 use Rattle.pm_object.specs.Reading.{ViewSeen}
@@ -14,6 +15,18 @@ pub record StaysInRange (v : ViewSeen) (first second : PropId) (list : ElimList)
   pub rows : List Row
   pub listed : IsListOf v first second rows
   pub stays : NoEvidence v.cols rows list
+
+-- the elimination of the rows of the two parts is lost by wide numbers too
+pub record IsLostList (v : ViewSeen) (first second : PropId) : Type 0 where
+  pub rows : List Row
+  pub listed : IsListOf v first second rows
+  pub lost : IsLost v.cols rows
+
+-- so is that of the extended list of these rows, by which their null space is found
+pub record IsLostExtendedList (v : ViewSeen) (first second : PropId) : Type 0 where
+  pub rows : List Row
+  pub listed : IsListOf v first second rows
+  pub lost : IsLostOnExtended v.cols rows
 
 -- L are the primitive whole rows of the value of the first property, G those of the value of the second
 pub record ReadsParts (v : ViewSeen) (first second : PropId) (L G : List Row) : Type 0 where

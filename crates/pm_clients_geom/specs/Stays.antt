@@ -1,9 +1,9 @@
 -- Where a client answers, and how it fails otherwise.
 use Rattle.pm_client.specs.Sound.{EliminatesExtended, EliminatesRows, FailsRightly, ReadsMatrix}
 use Rattle.pm_client.specs.declared.ClientFail.{ClientFail}
-use Rattle.pm_client.specs.declared.ClientFail.TheVariants.{Memory}
+use Rattle.pm_client.specs.declared.ClientFail.TheVariants.{Failed, Memory}
 use Rattle.pm_vector.specs.Numbers.{Ratio}
-use Rattle.pm_clients_geom.specs.Lists.{StaysInRange}
+use Rattle.pm_clients_geom.specs.Lists.{IsLostExtendedList, IsLostList, StaysInRange}
 use Rattle.pm_types.specs.Parts.{cols_over}
 use Rattle.pm_clients_geom.specs.declared.dims.DimWork.{DimWork}
 use Rattle.pm_clients_geom.specs.declared.dims.DimWork.TheVariants as dimension
@@ -23,13 +23,19 @@ DimStays dimension.ConeDimV v = StaysInRange v LinealitySpace Vertices list.Rows
 DimStays dimension.ConeDimPoints v = StaysInRange v InputLineality Points list.Rows
 DimStays w v = Unit {0}
 
+-- Q holds where a client fails with evidence, and not for want of memory
+abbrev pub IfFailed : ClientFail → Type 0 → Type 0
+IfFailed Memory Q = Unit {0}
+IfFailed (Failed e) Q = Q
+
 -- such a client that eliminates rows fails for want of memory or with evidence that holds of the view, of its rows as
--- they stand; another for want of memory alone
+-- they stand, and a wide one with evidence only where the elimination is lost by wide numbers too; another for want of
+-- memory alone
 abbrev pub DimFails : DimWork → ViewSeen → ClientFail → Type 0
 DimFails dimension.ConeDimV v e = FailsRightly v e × EliminatesRows e
 DimFails dimension.ConeDimPoints v e = FailsRightly v e × EliminatesRows e
-DimFails dimension.ConeDimVWide v e = FailsRightly v e
-DimFails dimension.ConeDimPointsWide v e = FailsRightly v e
+DimFails dimension.ConeDimVWide v e = FailsRightly v e × IfFailed e (IsLostList v LinealitySpace Vertices)
+DimFails dimension.ConeDimPointsWide v e = FailsRightly v e × IfFailed e (IsLostList v InputLineality Points)
 DimFails w v e = e ≡ Memory
 
 -- what is put of q are the rows of p that are read, each once and in their order
@@ -55,10 +61,13 @@ RowsStay rows.LinealityFromFacetsWide v d = Unit {0}
 RowsStay rows.HullFromVerticesWide v d = Unit {0}
 
 -- such a client fails for want of memory or with evidence that holds of the view, of its rows as they stand or of the
--- extended list; one that copies rows for want of memory alone
+-- extended list, and a wide one with evidence only where the elimination of the extended list is lost by wide numbers
+-- too; one that copies rows for want of memory alone
 abbrev pub RowsFail : RowsWork → ViewSeen → ClientFail → Type 0
 RowsFail rows.LinealityFromFacets v e = FailsRightly v e × EliminatesExtended e
 RowsFail rows.HullFromVertices v e = FailsRightly v e × EliminatesExtended e
 RowsFail rows.LinealityFromFacetsWide v e = FailsRightly v e × EliminatesExtended e
+    × IfFailed e (IsLostExtendedList v AffineHull Facets)
 RowsFail rows.HullFromVerticesWide v e = FailsRightly v e × EliminatesExtended e
+    × IfFailed e (IsLostExtendedList v LinealitySpace Vertices)
 RowsFail w v e = e ≡ Memory

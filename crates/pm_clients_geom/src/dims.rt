@@ -2,15 +2,16 @@
 
 ghost use Rattle.pm_client.specs.Sound.{EliminatesRows, FailsRightly, IsSound, added_rows, are_parts, eliminated_by, row_list as whole_list};
 ghost use Rattle.pm_client.specs.declared.ClientFail.TheVariants.{Memory};
-ghost use Rattle.pm_clients_geom.specs.Lists.{StaysInRange};
+ghost use Rattle.pm_clients_geom.specs.Lists.{IsLostList, StaysInRange};
 ghost use Rattle.pm_clients_geom.specs.Ranks.{IsListRank};
+ghost use Rattle.pm_clients_geom.specs.Stays.{IfFailed};
 ghost use Rattle.pm_elim.specs.declared.evidence.ElimList.TheVariants as list;
 ghost use Rattle.pm_object.specs.Reading.{IsView};
 ghost use Rattle.pm_standard.specs.Table.{standard_kind};
 ghost use Rattle.pm_props.specs.Sets.{has};
 ghost use Rattle.pm_props.specs.declared.property.PropId.TheVariants as property;
 ghost use Rattle.pm_standard.specs.declared.standard.StandardClient.TheVariants as client;
-ghost use Rattle.std.specs.Prelude.{Contains, IfErr, IfOk, IsTrue, OnOk, [], false, ◌<◌, ◌≡◌, ◌≤◌, map, ◌∷◌};
+ghost use Rattle.std.specs.Prelude.{Contains, IfErr, IfOk, IsTrue, OnOk, [], false, true, ◌<◌, ◌≡◌, ◌≤◌, map, ◌∷◌};
 
 use crate::lists::row_list;
 use pm_client::{ClientFail, matrix_of, put_value, whole_of};
@@ -64,7 +65,7 @@ impl DimWork {
 pub struct DimFamily;
 
 /// A client that finds a dimension. `cone_dim_v` and `cone_dim_points` fail exactly where the rank of their row list
-/// is Wide, and the wide ones of these only there; the others never.
+/// is Wide, and the wide ones of these only where besides its elimination is lost by wide numbers; the others never.
 pub type DimClient = FamilyClient<DimFamily>;
 
 impl Family for DimFamily {
@@ -129,6 +130,8 @@ fn rank_of_list(
     ensures stays { wide ≡ false → OnOk result (StaysInRange view.now first second list.Rows) }
     ensures failed { IfErr result (FailsRightly view.now) }
     ensures fails { IfErr result (λ e. FailsRightly view.now e × EliminatesRows e) }
+    ensures lost { wide ≡ true → IfErr result (λ e. FailsRightly view.now e
+        × IfFailed e (IsLostList view.now first second)) }
 {
     let rows = row_list(alloc, view, first, second)?;
     let rank = rank_by(alloc, &rows, view.cols(), wide)?;
@@ -189,6 +192,8 @@ fn cone_dim_v_wide(alloc: Global, view: &View, draft: &mut Draft) -> Result<(), 
     ensures draft { draft.new.kind ≡ draft.old.kind }
     ensures sound { OnOk result (IsSound view.now draft.new) }
     ensures failed { IfErr result (FailsRightly view.now) }
+    ensures lost { IfErr result (λ e. FailsRightly view.now e
+        × IfFailed e (IsLostList view.now property.LinealitySpace property.Vertices)) }
 {
     let dim = rank_of_list(alloc, view, PropId::LinealitySpace, PropId::Vertices, true)?;
     put_value(draft, PropId::ConeDim, Value::Int(dim as i64))?;
@@ -203,6 +208,8 @@ fn cone_dim_points_wide(alloc: Global, view: &View, draft: &mut Draft) -> Result
     ensures draft { draft.new.kind ≡ draft.old.kind }
     ensures sound { OnOk result (IsSound view.now draft.new) }
     ensures failed { IfErr result (FailsRightly view.now) }
+    ensures lost { IfErr result (λ e. FailsRightly view.now e
+        × IfFailed e (IsLostList view.now property.InputLineality property.Points)) }
 {
     let dim = rank_of_list(alloc, view, PropId::InputLineality, PropId::Points, true)?;
     put_value(draft, PropId::ConeDim, Value::Int(dim as i64))?;

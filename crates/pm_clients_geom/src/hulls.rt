@@ -2,12 +2,12 @@
 
 ghost use Rattle.pm_client.specs.Sound.{FailsRightly, IsSound, are_parts};
 ghost use Rattle.pm_client.specs.declared.ClientFail.TheVariants.{Memory};
-ghost use Rattle.pm_clients_geom.specs.Hulls.{AreFewRows, ArePossible, ArePutGenerators, FindsFacets, FindsRays, cut_type};
+ghost use Rattle.pm_clients_geom.specs.Hulls.{AreFewRows, ArePossible, ArePutGenerators, FindsFacets, FindsRays, IfOutOfRange, ReadsLostParts, cut_type};
 ghost use Rattle.pm_clients_geom.specs.Lists.{ReadsParts};
 ghost use Rattle.pm_props.specs.Sets.{has, set_of};
 ghost use Rattle.pm_props.specs.declared.property.PropId.TheVariants as property;
 ghost use Rattle.pm_standard.specs.declared.standard.StandardClient.TheVariants as client;
-ghost use Rattle.std.specs.Prelude.{IfErr, IfOk, IsTrue, OnOk, [], ◌∷◌, ◌≡◌, map};
+ghost use Rattle.std.specs.Prelude.{IfErr, IfOk, IsTrue, OnOk, [], true, ◌∷◌, ◌≡◌, map};
 
 use crate::rays::{are_rays, matrix_of_rays};
 use crate::rows::may_be_lines;
@@ -68,12 +68,12 @@ impl HullWork {
 pub struct HullFamily;
 
 /// A client of double description. It fails for want of memory, where a step leaves the range, and where a cone on the
-/// way has too many extreme rays. A wide one works a step that leaves the range by wide numbers, and where these do
-/// not suffice it fails as the standard one.
+/// way has too many extreme rays. A wide one works a step that leaves the range by wide numbers, and only where these
+/// do not suffice either, or for want of memory or too many rays, it fails as the standard one.
 pub type HullClient = FamilyClient<HullFamily>;
 
 impl Family for HullFamily {
-    ghost use Rattle.pm_client.specs.Sound.{FailsRightly};
+    ghost use Rattle.pm_clients_geom.specs.Hulls.{HullFails};
     ghost use Rattle.pm_clients_geom.specs.Works.{hull_client};
 
     type Work = HullWork;
@@ -82,7 +82,7 @@ impl Family for HullFamily {
 
     ghost Stays = { λ _ _ _. Unit {0} };
 
-    ghost Fails = { λ _ v e. FailsRightly v e };
+    ghost Fails = { HullFails };
 
     fn client(work: HullWork) -> StandardClient {
         match work {
@@ -220,6 +220,7 @@ fn dd_facets(
     ensures draft { draft.new.kind ≡ draft.old.kind }
     ensures sound { OnOk result (IsSound view.now draft.new) }
     ensures failed { IfErr result (FailsRightly view.now) }
+    ensures lost { wide ≡ true → IfErr result (λ e. IfOutOfRange e (ReadsLostParts view.now)) }
 {
     let parts = read_parts(alloc, view, first, second)?;
     let found = facets_of(alloc, view.cols(), &parts.second, &parts.first, wide)?;
@@ -255,6 +256,7 @@ fn dd_vertices(
     ensures draft { draft.new.kind ≡ draft.old.kind }
     ensures sound { OnOk result (IsSound view.now draft.new) }
     ensures failed { IfErr result (FailsRightly view.now) }
+    ensures lost { wide ≡ true → IfErr result (λ e. IfOutOfRange e (ReadsLostParts view.now)) }
 {
     let parts = read_parts(alloc, view, first, second)?;
     let of = cut_type(second, view.of());

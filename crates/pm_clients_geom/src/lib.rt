@@ -4,6 +4,7 @@
 #![tactic(auto)]
 
 ghost use Rattle.pm_clients_geom.specs.Laws.{FacetsAreThinned, FeasibleHasPoint, VerticesAreThinned};
+ghost use Rattle.pm_clients_geom.specs.LostListExamples.{LostListsAreRead};
 ghost use Rattle.pm_clients_geom.specs.RedundancyExamples.{FailsAreRead, PointsAreRead};
 ghost use Rattle.pm_clients_geom.specs.Examples.{HullsAreRead, MatricesAreRead, RaysAreRead, ThinnedAreRead};
 
@@ -68,4 +69,9 @@ pub fn example_redundancy()
 /// Inequalities of a line with a point, and without one.
 pub fn example_points()
     ensures { PointsAreRead }
+{}
+
+/// Rays of a cone whose list is lost by wide numbers, or its extended list, and how the wide clients fail on it.
+pub fn example_lost_lists()
+    ensures { LostListsAreRead }
 {}

@@ -3,11 +3,11 @@
 ghost use Rattle.pm_types.specs.Parts.{as_put};
 ghost use Rattle.pm_client.specs.Sound.{EliminatesExtended, FailsRightly, IsSound};
 ghost use Rattle.pm_client.specs.declared.ClientFail.TheVariants.{Memory};
-ghost use Rattle.pm_clients_geom.specs.Lists.{StaysInRange};
+ghost use Rattle.pm_clients_geom.specs.Lists.{IsLostExtendedList, StaysInRange};
 ghost use Rattle.pm_clients_geom.specs.Matrices.{MayBeLines};
 ghost use Rattle.pm_clients_geom.specs.Pairs.{LacksPair};
 ghost use Rattle.pm_clients_geom.specs.Ranks.{FindsNullSpace};
-ghost use Rattle.pm_clients_geom.specs.Stays.{RowsStay};
+ghost use Rattle.pm_clients_geom.specs.Stays.{IfFailed, RowsStay};
 ghost use Rattle.pm_clients_geom.specs.declared.rows.RowsWork.TheVariants as work;
 ghost use Rattle.pm_elim.specs.declared.evidence.ElimList.TheVariants as list;
 ghost use Rattle.pm_standard.specs.Table.{standard_kind};
@@ -15,7 +15,7 @@ ghost use Rattle.pm_props.specs.declared.property.PropId.TheVariants as property
 ghost use Rattle.pm_standard.specs.declared.standard.StandardClient.TheVariants as client;
 ghost use Rattle.pm_props.specs.Properties.{has_program, of_fans, row};
 ghost use Rattle.pm_props.specs.Sets.{has};
-ghost use Rattle.std.specs.Prelude.{All, false, IfErr, IfOk, IsTrue, OnOk, [], length, map, ◌<◌, ◌≡◌, ◌↔◌, ◌∷◌};
+ghost use Rattle.std.specs.Prelude.{All, false, IfErr, IfOk, IsTrue, OnOk, [], length, true, map, ◌<◌, ◌≡◌, ◌↔◌, ◌∷◌};
 
 use crate::lists::row_list;
 use pm_client::{ClientFail, matrix_of, put_value};
@@ -69,7 +69,8 @@ impl RowsWork {
 pub struct RowsFamily;
 
 /// A client that finds rows. `lineality_from_facets` and `hull_from_vertices` fail exactly where the null space of
-/// their row list is Wide, and the wide ones of these only there; the others never.
+/// their row list is Wide, and the wide ones of these only where besides the elimination of its extended list is lost
+/// by wide numbers; the others never.
 pub type RowsClient = FamilyClient<RowsFamily>;
 
 impl Family for RowsFamily {
@@ -165,6 +166,8 @@ fn lineality_from_facets(
         property.Facets list.Extended) }
     ensures failed { IfErr result (FailsRightly view.now) }
     ensures fails { IfErr result (λ e. FailsRightly view.now e × EliminatesExtended e) }
+    ensures lost { wide ≡ true → IfErr result (λ e. FailsRightly view.now e × EliminatesExtended e
+        × IfFailed e (IsLostExtendedList view.now property.AffineHull property.Facets)) }
 {
     let rows = row_list(alloc, view, PropId::AffineHull, PropId::Facets)?;
     let null = null_space_by(alloc, &rows, view.cols(), wide)?;
@@ -197,6 +200,8 @@ fn hull_from_vertices(
         property.Vertices list.Extended) }
     ensures failed { IfErr result (FailsRightly view.now) }
     ensures fails { IfErr result (λ e. FailsRightly view.now e × EliminatesExtended e) }
+    ensures lost { wide ≡ true → IfErr result (λ e. FailsRightly view.now e × EliminatesExtended e
+        × IfFailed e (IsLostExtendedList view.now property.LinealitySpace property.Vertices)) }
 {
     let rows = row_list(alloc, view, PropId::LinealitySpace, PropId::Vertices)?;
     let null = null_space_by(alloc, &rows, view.cols(), wide)?;

@@ -4,6 +4,7 @@ use Rattle.pm_client.proofs.ViewLaws.{has_listed}
 use Rattle.pm_clients_geom.proofs.dims.cone_dim_points_wide.Goals as goal
 use Rattle.pm_standard.specs.declared.standard.StandardClient.TheVariants.{ConeDimPointsWide}
 use Rattle.pm_props.specs.declared.property.PropId.TheVariants.{ConeDim, InputLineality, Points}
+use Rattle.std.proofs.lemmas.Result.{err_from_is_err_and}
 use Rattle.std.proofs.Common.{[], ap, refl, ◌∙◌, ◌∷◌}
 
 pub rank_of_list-requires-clause-first : goal.rank_of_list-requires-clause-first
@@ -22,3 +23,8 @@ pub returns-clause-sound : goal.returns-clause-sound
 returns-clause-sound c =
     rank_of_points c.args.view.now c.args.draft.now c.put_value.new.draft c.in_ok-dim.dim c.in_ok-dim.ensures.few
     (record { targets = ap (λ k. k.targets) c.requires.kind; empty = c.requires.empty; put = c.in_ok-put_value.ensures.ok }) c.in_ok-dim.ensures.rank
+
+pub returns-in_err-dim-clause-lost : goal.returns-in_err-dim-clause-lost
+returns-in_err-dim-clause-lost c =
+    let p = err_from_is_err_and c.from_residual.result c.from_residual.ensures.1 in
+    rw (p.1, p.2) (c.in_err-dim.ensures.lost refl)

@@ -3,6 +3,10 @@ use Rattle.std.proofs.lemmas.Result.{err_from_is_err_and}
 use Rattle.pm_client.proofs.Failing.{eliminates_in, fails_by_list}
 use Rattle.pm_client.specs.Sound.{EliminatesRows, FailsRightly}
 use Rattle.pm_elim.specs.declared.evidence.ElimList.TheVariants as list
+use Rattle.pm_clients_geom.proofs.FailedLost.{failed_lost}
+use Rattle.pm_clients_geom.specs.Lists.{IsLostList}
+use Rattle.pm_clients_geom.specs.Stays.{IfFailed}
+use Rattle.pm_elim.specs.Lost.{IsLost}
 use Rattle.pm_clients_geom.proofs.FoundDims.{rank_at_most}
 use Rattle.pm_clients_geom.proofs.dims.rank_of_list.Goals as goal
 
@@ -47,4 +51,14 @@ returns-in_err-rank-clause-fails c =
     rw w.1 (subst (λ e. FailsRightly c.args.view.now e × EliminatesRows e) (sym w.2) (
       fails_by_list c.args.view.now c.in_ok-rows.rows.items c.in_err-rank.field-0.0 c.requires.eliminates (record { first = c.args.first; second = c.args.second; parts = c.requires.parts; list = c.in_ok-rows.ensures.listed }) (rw (← c.deref.ensures.value, ← c.cols.ensures.value) c.in_err-rank.ensures.wide),
       eliminates_in (λ l. l ≡ list.Rows) c.in_err-rank.field-0.0 c.in_err-rank.ensures.list,
+    ))
+
+pub returns-in_err-rank-clause-lost : goal.returns-in_err-rank-clause-lost
+returns-in_err-rank-clause-lost c = λ wide.
+    let w = err_from_is_err_and c.from_residual-in_err-rank.result c.from_residual-in_err-rank.ensures.1 in
+    rw w.1 (subst (λ e. FailsRightly c.args.view.now e × IfFailed e (IsLostList c.args.view.now c.args.first c.args.second)) (sym w.2) (
+      fails_by_list c.args.view.now c.in_ok-rows.rows.items c.in_err-rank.field-0.0 c.requires.eliminates (record { first = c.args.first; second = c.args.second; parts = c.requires.parts; list = c.in_ok-rows.ensures.listed }) (rw (← c.deref.ensures.value, ← c.cols.ensures.value) c.in_err-rank.ensures.wide),
+      failed_lost c.in_err-rank.field-0.0 (IsLost c.args.view.now.cols c.in_ok-rows.rows.items) (IsLostList c.args.view.now c.args.first c.args.second)
+          (λ lost. record { rows = c.in_ok-rows.rows.items; listed = c.in_ok-rows.ensures.listed; lost = lost })
+          (rw (c.deref.ensures.value, c.cols.ensures.value) at (c.in_err-rank.ensures.lost wide)),
     ))

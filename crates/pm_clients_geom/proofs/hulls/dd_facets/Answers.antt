@@ -1,9 +1,12 @@
 use Rattle.pm_client.proofs.Failing.{fails_by_parts}
 use Rattle.pm_client.proofs.ViewLaws.{has_listed}
 use Rattle.pm_client.specs.Sound.{FailsRightly}
+use Rattle.pm_client.specs.declared.ClientFail.{ClientFail}
 use Rattle.pm_clients_geom.proofs.FoundHulls.{facets_sound, lines_few, parts_of_generators}
+use Rattle.pm_clients_geom.proofs.LostParts.{parts_lost}
 use Rattle.pm_clients_geom.proofs.RowLists.{first_source, second_source}
 use Rattle.pm_clients_geom.proofs.hulls.dd_facets.Goals as goal
+use Rattle.pm_clients_geom.specs.Hulls.{IfOutOfRange, ReadsLostParts}
 use Rattle.pm_relations.proofs.Hulls.{order_cols}
 use Rattle.pm_props.specs.declared.property.PropId.TheVariants.{AffineHull, Facets}
 use Rattle.pm_props.specs.declared.property.PropId.{PropId}
@@ -34,6 +37,17 @@ returns-in_err-found-clause-failed c =
     (fails_by_parts v kind.doubles kind.lists c.in_ok-parts.parts.first.items c.in_ok-parts.parts.second.items c.in_err-found.field-0.0
     (parts_of_generators v c.args.first c.args.second c.in_ok-parts.parts.first.items c.in_ok-parts.parts.second.items kind.parts kind.generators c.in_ok-parts.ensures.read)
     (rw (c.deref.ensures.value, c.deref-2.ensures.value, c.cols.ensures.value) at c.in_err-found.ensures.shown)))
+
+pub returns-in_err-found-clause-lost : goal.returns-in_err-found-clause-lost
+returns-in_err-found-clause-lost c = λ e.
+    let v = c.args.view.now in
+    let kind = c.requires.kind in
+    let w = err_from_is_err_and c.from_residual-in_err-found.result c.from_residual-in_err-found.ensures.1 in
+    rw w.1 (subst (λ (f : ClientFail). IfOutOfRange f (ReadsLostParts v)) (sym w.2)
+    (parts_lost v c.in_ok-parts.parts.first.items c.in_ok-parts.parts.second.items c.in_err-found.field-0.0
+    (parts_of_generators v c.args.first c.args.second c.in_ok-parts.parts.first.items c.in_ok-parts.parts.second.items kind.parts kind.generators c.in_ok-parts.ensures.read)
+    (rw (c.deref.ensures.value, c.deref-2.ensures.value, c.cols.ensures.value) at c.in_err-found.ensures.shown)
+    (rw (c.deref.ensures.value, c.deref-2.ensures.value, c.cols.ensures.value) at (c.in_err-found.ensures.lost e))))
 
 pub returns-clause-sound : goal.returns-clause-sound
 returns-clause-sound c =

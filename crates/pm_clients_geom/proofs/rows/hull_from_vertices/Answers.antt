@@ -3,6 +3,10 @@ use Rattle.pm_client.proofs.Failing.{eliminates_in, fails_by_list}
 use Rattle.pm_family.proofs.Failing.{takes_alone}
 use Rattle.pm_client.specs.Sound.{EliminatesExtended, FailsRightly}
 use Rattle.pm_elim.specs.declared.evidence.ElimList.TheVariants as elimination_list
+use Rattle.pm_clients_geom.proofs.FailedLost.{failed_lost}
+use Rattle.pm_clients_geom.specs.Lists.{IsLostExtendedList}
+use Rattle.pm_clients_geom.specs.Stays.{IfFailed}
+use Rattle.pm_elim.specs.Lost.{IsLostOnExtended}
 use Rattle.pm_clients_geom.proofs.NullMatrices.{hull_sound}
 use Rattle.pm_client.proofs.ViewLaws.{has_listed, not_fan, target_named}
 use Rattle.pm_clients_geom.proofs.rows.hull_from_vertices.Goals as goal
@@ -57,4 +61,15 @@ returns-in_err-null-clause-fails c =
     rw w.1 (subst (λ e. FailsRightly c.args.view.now e × EliminatesExtended e) (sym w.2) (
       fails_by_list c.args.view.now c.in_ok-rows.rows.items c.in_err-null.field-0.0 (takes_alone c.args.view.now c.requires.kind.lists) (record { first = LinealitySpace; second = Vertices; parts = refl; list = c.in_ok-rows.ensures.listed }) (rw (← c.deref.ensures.value, ← c.cols.ensures.value) c.in_err-null.ensures.wide),
       eliminates_in (λ l. (l ≡ elimination_list.Rows) ⊎ (l ≡ elimination_list.Extended)) c.in_err-null.field-0.0 c.in_err-null.ensures.list,
+    ))
+
+pub returns-in_err-null-clause-lost : goal.returns-in_err-null-clause-lost
+returns-in_err-null-clause-lost c = λ wide.
+    let w = err_from_is_err_and c.from_residual-in_err-null.result c.from_residual-in_err-null.ensures.1 in
+    rw w.1 (subst (λ e. FailsRightly c.args.view.now e × EliminatesExtended e × IfFailed e (IsLostExtendedList c.args.view.now LinealitySpace Vertices)) (sym w.2) (
+      fails_by_list c.args.view.now c.in_ok-rows.rows.items c.in_err-null.field-0.0 (takes_alone c.args.view.now c.requires.kind.lists) (record { first = LinealitySpace; second = Vertices; parts = refl; list = c.in_ok-rows.ensures.listed }) (rw (← c.deref.ensures.value, ← c.cols.ensures.value) c.in_err-null.ensures.wide),
+      eliminates_in (λ l. (l ≡ elimination_list.Rows) ⊎ (l ≡ elimination_list.Extended)) c.in_err-null.field-0.0 c.in_err-null.ensures.list,
+      failed_lost c.in_err-null.field-0.0 (IsLostOnExtended c.args.view.now.cols c.in_ok-rows.rows.items) (IsLostExtendedList c.args.view.now LinealitySpace Vertices)
+          (λ lost. record { rows = c.in_ok-rows.rows.items; listed = c.in_ok-rows.ensures.listed; lost = lost })
+          (rw (c.deref.ensures.value, c.cols.ensures.value) at (c.in_err-null.ensures.lost wide)),
     ))
