@@ -11,3 +11,4 @@ pub mod Backward
 pub mod Reached
 pub mod Planning
 pub mod Crowding
+pub mod Tagged

@@ -5,6 +5,7 @@ mod answer;
 mod moves;
 mod planner;
 mod search;
+mod tags;
 mod track;
 
 pub use answer::{Plan, PlanEnd};

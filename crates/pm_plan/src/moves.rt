@@ -4,6 +4,7 @@ ghost use Rattle.std.specs.Prelude.{◌≡◌, ◌+◌, ◌^◌, ◌<◌, ◌≤
 ghost use Rattle.pm_plan.specs.Moves.{AreMoves, after};
 ghost use Rattle.pm_limits.specs.Limits.{most_rules};
 
+use crate::tags::TagSets;
 use pm_rules::{PropSet, Rule, RuleId, Step, TableRow, Weight, needed};
 use std::alloc::{AllocError, Global};
 
@@ -30,13 +31,14 @@ pub fn moves(
     ensures { IfOk result (λ v. AreMoves rules.now names barred.now asked v.items) }
 {
     let needed = needed(rules, names, barred, asked);
+    let tags = TagSets::new();
     let mut moves = Vec::new(alloc);
     for (i, rule) in rules.iter().enumerate() {
         let id = RuleId(i as u16);
         if rule.finds_one(names, barred, needed, id) {
             moves.push(Move {
                 id,
-                step: rule.step(),
+                step: tags.step(rule),
                 weight: rule.weight,
             })?;
         }

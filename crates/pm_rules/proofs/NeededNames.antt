@@ -50,13 +50,16 @@ module _ (rules : List Rule) (names : PropSet) (barred : List RuleId) (set : Pro
     | inr l ↦ in_union_right more (inputs item) p (subst (λ (r : Rule). IsTrue (has (inputs r) p)) (sym (at_itself rules id i item rule e (omega arith) f)) k)
   ]
 
-  pub read_same : (i : ℕ) (item : Rule) (more : PropSet) → slice_get rules i ≡ Some item → (FindsOne names barred set (record { 0 = i }) item → ⊥)
+  pub read_same : (i : ℕ) (item : Rule) (more : PropSet) → slice_get rules i ≡ Some item
+      → (FindsOne names barred set (record { 0 = i }) item → IsSubset (inputs item) more)
       → ReadIsIn rules names barred set i more → ReadIsIn rules names barred set (i + 1) more
-  read_same i item more e not h = λ id rule low f finds. elim (cases_lt id.0 i) [
+  read_same i item more e is_in h = λ id rule low f finds. elim (cases_lt id.0 i) [
     | inl l ↦ h id rule l f finds
-    | inr l ↦ absurd (not (
+    | inr l ↦
         let same : id.0 ≡ i = omega arith in
-        subst (λ (r : Rule). FindsOne names barred set (record { 0 = i }) r) (sym (at_itself rules id i item rule e same f))
+        let is_item : item ≡ rule = at_itself rules id i item rule e same f in
+        subst (λ (r : Rule). IsSubset (inputs r) more) is_item (is_in (
+        subst (λ (r : Rule). FindsOne names barred set (record { 0 = i }) r) (sym is_item)
         (subst (λ (n : ℕ). FindsOne names barred set (record { 0 = n }) rule) same finds)))
   ]
 

@@ -1,6 +1,6 @@
 // Which names are needed to find the asked ones, and which rules are useful for that.
 
-ghost use Rattle.std.specs.Prelude.{◌≡◌, ◌≤◌, ◌↔◌, IsTrue, Some, length};
+ghost use Rattle.std.specs.Prelude.{◌≡◌, ◌≤◌, ◌↔◌, IsTrue, Some, false, length};
 ghost use Rattle.pm_props.specs.declared.property.PropId.{PropId};
 ghost use Rattle.pm_props.specs.Sets.{has, IsSubset};
 ghost use Rattle.pm_rules.specs.Rules.{rule_at, inputs};
@@ -34,6 +34,22 @@ impl Rule {
     {
         !self.kind.targets.intersection(of).is_empty() && self.may_be_used(names, barred, id)
     }
+
+    // Whether the rule of this number finds one of these names, and reads what is not in the set yet.
+    fn reads_more(
+        &self,
+        names: PropSet,
+        barred: &[RuleId],
+        of: PropSet,
+        set: PropSet,
+        id: RuleId,
+    ) -> bool
+        ensures finds { IsTrue result → FindsOne names barred.now of id self.now }
+        ensures read { result ≡ false → FindsOne names barred.now of id self.now
+            → IsSubset (inputs self.now) set }
+    {
+        !self.inputs().is_subset(set) && self.finds_one(names, barred, of, id)
+    }
 }
 
 // The set with all that the rules read which find one of it.
@@ -48,7 +64,7 @@ fn with_read(rules: &[Rule], names: PropSet, barred: &[RuleId], set: PropSet) ->
 {
     let mut more = set;
     for (i, rule) in rules.iter().enumerate() {
-        if rule.finds_one(names, barred, set, RuleId(i as u16)) {
+        if rule.reads_more(names, barred, set, more, RuleId(i as u16)) {
             more = more.union(rule.inputs());
         }
     }
