@@ -89,7 +89,7 @@ pub data ReplySeen : Type 0 where
 -- ---- the code's replies
 abbrev pub names_seen : Names → NamesSeen
 names_seen n = record {
-  rules = map (λ x. (string_bytes x.0, x.1)) n.rules.items;
+  rules = n.rules.items;
   programs = map string_bytes n.subs.items;
 }
 

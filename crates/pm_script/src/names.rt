@@ -3,6 +3,7 @@
 ghost use Rattle.pm_script.specs.Replies.{names_seen};
 ghost use Rattle.std.specs.Prelude.{[], ◌≡◌};
 
+use pm_props::ClientName;
 use pm_types::PropId;
 use pm_weights::Weight;
 use std::alloc::Global;
@@ -11,7 +12,7 @@ use std::alloc::Global;
 /// their places.
 #[derive(Debug, Drop)]
 pub struct Names {
-    pub rules: Vec<(String, Weight)>,
+    pub rules: Vec<(ClientName, Weight)>,
     pub subs: Vec<String>,
 }
 

@@ -4,7 +4,7 @@ ghost use Rattle.pm_shell.specs.Ends.{Ended, EndedBy, IsBadBook, IsUnrun, Ran};
 ghost use Rattle.pm_store.specs.Outside.{Rose};
 ghost use Rattle.pm_words.specs.Spoken.{seen_words};
 ghost use Rattle.pm_words.specs.Words.{words_of};
-ghost use Rattle.std.specs.Prelude.{IsErrOf, List, None, Option, Some, map, string_bytes, ℕ, ◌≡◌, ◌≢◌, ◌≤◌, ◌⊎◌};
+ghost use Rattle.std.specs.Prelude.{IfOk, IsErrOf, List, None, Option, Some, map, string_bytes, ℕ, ◌≡◌, ◌≢◌, ◌≤◌, ◌⊎◌};
 
 use crate::book::{NoBook, chosen_book};
 use crate::demo::{TextSource, demo_script};
@@ -138,6 +138,21 @@ fn run_words<S: Source, K: Sink, F: Store>(
     }
 }
 
+/// What the words say. Where there are none, they are not read.
+fn said_by(alloc: Global, words: &[String]) -> Result<Words, WordsFail>
+    ensures said { IfOk result (λ w. words_of (map string_bytes words.now) ≡ Some (seen_words w)) }
+    ensures bad { IsErrOf result WordsFail.BadWords → words_of (map string_bytes words.now) ≡ None }
+{
+    if words.is_empty() {
+        return Ok(Words {
+            rules: None,
+            trace: false,
+            demo: None,
+        });
+    }
+    read_words(alloc, words)
+}
+
 /// Answers the lines of a script by steps of the machine, each line as soon as it was read, and its reply is written
 /// before the next one is read. Memory: the line at hand and what one read gave.
 ///
@@ -187,7 +202,7 @@ pub fn polymake<S: Source, K: Sink, F: Store>(
     ensures sink_count { K.faults sink.old ≤ K.faults sink.new }
     ensures store_count { F.faults store.old ≤ F.faults store.new }
 {
-    match read_words(alloc, words) {
+    match said_by(alloc, words) {
         Ok(said) => run_words(alloc, &said, clients, source, sink, store),
         Err(WordsFail::BadWords) => Status::BadWords,
         Err(WordsFail::Memory) => Status::OutOfMemory,

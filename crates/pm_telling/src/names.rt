@@ -13,11 +13,14 @@ use std::alloc::{AllocError, Global};
 pub fn rule_names(alloc: Global, rules: &[Rule]) -> Result<Names, AllocError>
     ensures { IfOk result (λ n. names_seen n ≡ rules_told rules.now) }
 {
-    let mut names = Names::none(alloc);
+    let mut labels = Vec::with_capacity(alloc, rules.len())?;
     for rule in rules {
-        names.rules.push((String::from_str(alloc, rule.label.as_str())?, rule.weight))?;
+        labels.push((rule.label, rule.weight))?;
     }
-    Ok(names)
+    Ok(Names {
+        rules: labels,
+        subs: Vec::new(alloc),
+    })
 }
 
 /// The label and the weight of each rule, and the names of the object's programs.
