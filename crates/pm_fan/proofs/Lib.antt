@@ -1,5 +1,6 @@
 pub mod Examples
 pub mod ExampleDims
+pub mod LostCones
 pub mod Tails
 pub mod Kept
 pub mod Refused

@@ -6,6 +6,7 @@ use Rattle.pm_vector.specs.Rows.{Row}
 use Rattle.pm_vector.specs.Bases.{IsRank}
 use Rattle.pm_elim.specs.EliminationSteps.{EliminationStep}
 use Rattle.pm_elim.specs.Evidence.{IsEvidence, NoEvidence}
+use Rattle.pm_elim.specs.Lost.{IsLost}
 use Rattle.pm_elim.specs.declared.evidence.ElimList.TheVariants as list
 use Rattle.pm_geom.specs.Faces.{ray}
 use lib.IntN.{ℤ, pos, negsuc}
@@ -32,6 +33,12 @@ pub record IsConeEvidence (n : ℕ) (V L : List Row) (cones : List (List ℕ)) (
   pub set : List ℕ
   pub listed : Contains cones set
   pub shown : IsEvidence n (cone_rows V L set) e
+
+-- the elimination of the rows of one of the cones is lost by wide numbers too
+pub record IsLostCone (n : ℕ) (V L : List Row) (cones : List (List ℕ)) : Type 0 where
+  pub set : List ℕ
+  pub listed : Contains cones set
+  pub lost : IsLost n (cone_rows V L set)
 
 -- no evidence shows one
 abbrev pub NoConeEvidence : ℕ → List Row → List Row → List (List ℕ) → Type 0

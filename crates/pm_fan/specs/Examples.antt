@@ -1,6 +1,7 @@
 -- The definitions read on a square, a segment and a point, and on small cones: what holds, and what does not.
 use Rattle.std.specs.Prelude.{ℕ, ◌≡◌, Bool, true, false, List, [], ◌∷◌, ◌++◌, None, Some, map}
 use Rattle.pm_vector.specs.Rows.{Row}
+use Rattle.pm_elim.specs.LostExamples.{odd_next, odd_row}
 use Rattle.pm_files.specs.Files.{SavedFile}
 use Rattle.pm_types.specs.Parts.{value_over}
 use Rattle.pm_object.specs.State.{HeldValue, State}
@@ -12,7 +13,7 @@ use Rattle.pm_props.specs.declared.property.PropId.TheVariants.{AffineHull, Boun
 use Rattle.pm_types.specs.Values.{PropertyValue, sets, truth, whole}
 use Rattle.pm_types.specs.Views.{ratios}
 use Rattle.pm_fan.specs.Conditions.{face_refusal, normal_refusal}
-use Rattle.pm_fan.specs.Dimensions.{AreDimensions, ArePlaces, IsDimension, cone_rows}
+use Rattle.pm_fan.specs.Dimensions.{AreDimensions, ArePlaces, IsDimension, IsLostCone, cone_rows}
 use Rattle.pm_fan.specs.Fans.{cut, face_fan_of, fan_with, holders_from, normal_fan_of, with_members}
 use lib.IntN.{ℤ, pos, negsuc}
 
@@ -48,6 +49,15 @@ pub record DimensionsAreRead : Type 0 where
   -- places of rays
   pub places : ArePlaces axes [] ((0 ∷ 1 ∷ []) ∷ [])
   pub no_place : ¬ (ArePlaces axes [] ((2 ∷ []) ∷ []))
+
+-- eliminations of the rows of cones
+pub record LostConesAreRead : Type 0 where
+  -- that of (2, 1, -1) and (1, 1, 2^126) is lost, where both are rays of a cone, and where the first is a line
+  pub lost : IsLostCone 3 (odd_row ∷ odd_next ∷ []) [] ((0 ∷ []) ∷ (0 ∷ 1 ∷ []) ∷ [])
+  pub over_line : IsLostCone 3 (odd_next ∷ []) (odd_row ∷ []) ((0 ∷ []) ∷ [])
+  -- not where no cone has both, and where there is no cone
+  pub not_apart : ¬ (IsLostCone 3 (odd_row ∷ odd_next ∷ []) [] ((0 ∷ []) ∷ (1 ∷ []) ∷ []))
+  pub not_without_cone : ¬ (IsLostCone 3 (odd_next ∷ []) (odd_row ∷ []) [])
 
 -- ---- objects
 -- a given value of the object

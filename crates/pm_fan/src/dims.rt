@@ -3,9 +3,9 @@
 ghost use Rattle.pm_vector.specs.Rows.{HasCols};
 ghost use Rattle.pm_elim.specs.Evidence.{IfWide};
 ghost use Rattle.pm_elim.specs.declared.evidence.ElimList.TheVariants as list;
-ghost use Rattle.pm_fan.specs.Dimensions.{AreDimensions, ArePlaces, IsConeEvidence, NoConeEvidence, cone_rows};
+ghost use Rattle.pm_fan.specs.Dimensions.{AreDimensions, ArePlaces, IsConeEvidence, IsLostCone, NoConeEvidence, cone_rows};
 ghost use Rattle.std.specs.List.{All};
-ghost use Rattle.std.specs.Prelude.{IfErr, IfOk, OnOk, false, length, ◌<◌, ◌^◌, ◌≡◌};
+ghost use Rattle.std.specs.Prelude.{IfErr, IfOk, OnOk, false, length, ◌<◌, ◌^◌, ◌≡◌, true};
 
 use pm_elim::{ElimFail, copies, rank_by};
 use pm_types::Sets;
@@ -32,7 +32,8 @@ fn cone_rows(
 /// The dimensions of cones that are given by their rays, as sets of places, over one lineality: for each set the rank
 /// of the lineality with these rays. The rows have `cols` entries.
 /// `Wide` exactly where, for some set, a step of the elimination of these rows leaves the range; the evidence is on
-/// them. With `wide` such an elimination is worked by wide numbers, and `Wide` comes only where these do not suffice.
+/// them. With `wide` such an elimination is worked by wide numbers, and `Wide` comes only where besides, for some set,
+/// that elimination is lost by wide numbers too: no row in the range is what a step of it makes.
 pub fn cone_dims(
     alloc: Global,
     rays: &[Ints],
@@ -49,6 +50,8 @@ pub fn cone_dims(
     ensures never_wide { OnOk result (wide ≡ false → NoConeEvidence cols rays.now lineality.now cones.now.rows) }
     ensures wide { IfErr result (λ f. IfWide f (IsConeEvidence cols rays.now lineality.now cones.now.rows)) }
     ensures list { IfErr result (λ f. IfWide f (λ e. e.list ≡ list.Rows)) }
+    ensures lost { wide ≡ true → IfErr result (λ f.
+        IfWide f (λ _. IsLostCone cols rays.now lineality.now cones.now.rows)) }
 {
     let mut dims = Vec::new(alloc);
     for set in cones.rows() {

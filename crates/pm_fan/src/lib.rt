@@ -2,7 +2,7 @@
 //! rules, clients and sessions.
 #![tactic(auto)]
 
-ghost use Rattle.pm_fan.specs.Examples.{ConditionsAreRead, DimensionsAreRead, FansAreRead};
+ghost use Rattle.pm_fan.specs.Examples.{ConditionsAreRead, DimensionsAreRead, FansAreRead, LostConesAreRead};
 ghost use Rattle.pm_fan.specs.Laws.{FansHaveForms};
 
 mod building;
@@ -22,6 +22,11 @@ pub fn law_fans_have_forms()
 /// Dimensions of small cones, and what is none.
 pub fn example_dimensions()
     ensures { DimensionsAreRead }
+{}
+
+/// Cones of whose rows the elimination is lost by wide numbers, and cones of whose it is not.
+pub fn example_lost_cones()
+    ensures { LostConesAreRead }
 {}
 
 /// The fans of a square and of a point.
