@@ -5,6 +5,7 @@ pub mod Appended
 pub mod Thinning
 pub mod Groups
 pub mod ThinFails
+pub mod Lost
 pub mod Thinned
 pub mod Described
 pub mod FacetPlaces
@@ -17,5 +18,6 @@ mod DeterminedRows
 pub mod ThinExamples
 pub mod PlaceExamples
 pub mod SetExamples
+pub mod LostExamples
 pub mod ShortRows
 pub mod ThinnedRow

@@ -7,7 +7,7 @@ use Rattle.pm_vector.specs.Cones.{InCone, InSpan, combination}
 use Rattle.pm_vector.specs.Divisors.{IsPrimitive}
 use Rattle.pm_vector.specs.Rows.{IsZero, Row, dot, entry, opposite, plus, times}
 use Rattle.pm_vector.proofs.BasisExamples.{primitive_by_one}
-use Rattle.pm_vector.specs.Bases.{IsEchelonBasis, column, row_at}
+use Rattle.pm_vector.specs.Bases.{IsEchelonBasis, row_at}
 use Rattle.pm_elim.proofs.DualLaws.{null_basis_unique}
 use Rattle.pm_elim.specs.NullSpaces.{IsNull, IsNullBasis}
 use Rattle.pm_geom.proofs.Apart.{lineality_spanned}
@@ -16,7 +16,7 @@ use Rattle.pm_geom.specs.Cones.{InLineality, SameModulo}
 use Rattle.pm_geom.specs.Generators.{IsLinealityBasis, VanishAt}
 use Rattle.pm_incidence.proofs.Determined.{one_lineality}
 use Rattle.pm_incidence.proofs.Products.{itself}
-use Rattle.pm_incidence.proofs.ThinExamples.{y_echelon}
+use Rattle.pm_incidence.proofs.ThinExamples.{one_echelon, y_echelon}
 use Rattle.pm_incidence.specs.Examples.{pair}
 use Rattle.pm_incidence.specs.FromSets.{AreCanonicalFor, AreDetermined, IsDetermining, IsWideSign, determining}
 use Rattle.pm_incidence.specs.ThinExamples.{RowsFromSetsAreRead, diagonal, large, larger, steep, x_axis, y_axis}
@@ -25,7 +25,7 @@ use Rattle.std.proofs.lemmas.Int.{ints}
 use Rattle.std.specs.List.{slice_index_or}
 use Rattle.std.specs.Prelude.{◌^◌, List, [], length, suc, zero, ℕ, ◌∷◌, ◌≡◌, ◌<◌, ◌↔◌, ◌⊎◌}
 use lib.IntN.{negsuc, pos, ℤ, ◌*ℤ◌}
-use lib.Signed.{lt_z_yes, ◌<ℤ◌, ◌≤ℤ◌}
+use lib.Signed.{lt_z_yes, ◌≤ℤ◌}
 
 abbrev quadrant : List Row
 quadrant = y_axis ∷ x_axis ∷ []
@@ -271,23 +271,7 @@ on_larger (a ∷ b ∷ []) l = (
 on_larger (a ∷ b ∷ c ∷ x) l = absurd (omega arith)
 
 larger_echelon : IsEchelonBasis 2 (larger ∷ []) (0 ∷ [])
-larger_echelon = record {
-  basis = record { cols = (refl, tt); as_many = refl; positive = positive; reduced = λ i j l m ne. absurd (ne (omega arith)); primitive = primitive };
-  ascending = λ i j l m. absurd (omega arith);
-  before = before;
-}
-  where
-    positive : (i : ℕ) → i < 1 → pos 0 <ℤ entry (row_at (larger ∷ []) i) (column (0 ∷ []) i)
-    positive zero l = lt_z_yes tt
-    positive (suc i) l = absurd (omega arith)
-
-    primitive : (i : ℕ) → i < 1 → IsPrimitive (row_at (larger ∷ []) i)
-    primitive zero l = primitive_by_one larger 1 refl
-    primitive (suc i) l = absurd (omega arith)
-
-    before : (i c : ℕ) → i < 1 → c < column (0 ∷ []) i → entry (row_at (larger ∷ []) i) c ≡ pos 0
-    before zero c l m = absurd (omega arith)
-    before (suc i) c l m = absurd (omega arith)
+larger_echelon = one_echelon 2 larger 0 refl (lt_z_yes tt) (λ d l. absurd (omega arith)) (primitive_by_one larger 1 refl)
 
 steep_null : IsNullBasis 2 (steep ∷ large ∷ []) [] []
 steep_null = record { echelon = none_echelon; null = λ x l. (λ h. null x (none_to_zero x h) l, λ h. by_two (λ x. IsNull (steep ∷ large ∷ []) x → InSpan [] x) spanned x l h) }

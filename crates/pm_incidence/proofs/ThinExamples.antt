@@ -20,7 +20,7 @@ use Rattle.pm_object_type.specs.declared.object_type.ObjectType.TheVariants.{Pol
 use Rattle.std.proofs.Common.{ap, arith, inl, inr, refl, sym, true≢false}
 use Rattle.std.proofs.lemmas.Int.{ints}
 use Rattle.std.specs.List.{All, Contains}
-use Rattle.std.specs.Prelude.{IsTrue, List, [], false, get_or, suc, true, zero, ℕ, ◌∷◌, ◌≡◌, ◌<◌, ◌≤◌, ◌↔◌}
+use Rattle.std.specs.Prelude.{IsTrue, List, [], false, get_or, length, suc, true, zero, ℕ, ◌∷◌, ◌≡◌, ◌<◌, ◌≤◌, ◌↔◌}
 use lib.IntN.{pos, ℤ}
 use lib.Signed.{lt_z_yes, ◌<ℤ◌}
 
@@ -106,25 +106,32 @@ not_primitive h =
     halves (suc (suc i)) = refl
 
 -- ---- a basis and a row behind it
-pub y_echelon : IsEchelonBasis 2 (y_axis ∷ []) (1 ∷ [])
-y_echelon = record {
-  basis = record { cols = (refl, tt); as_many = refl; positive = positive; reduced = λ i j l m ne. absurd (ne (omega arith)); primitive = primitive };
+-- a primitive row whose first entry that is not 0 is positive is a basis by itself
+pub one_echelon : (n : ℕ) (b : Row) (c : ℕ) → length b ≡ n → pos 0 <ℤ entry b c → ((d : ℕ) → d < c → entry b d ≡ pos 0) → IsPrimitive b → IsEchelonBasis n (b ∷ []) (c ∷ [])
+one_echelon n b c cols up zeros prime = record {
+  basis = record { cols = (cols, tt); as_many = refl; positive = positive; reduced = λ i j l m ne. absurd (ne (omega arith)); primitive = primitive };
   ascending = λ i j l m. absurd (omega arith);
   before = before;
 }
   where
-    positive : (i : ℕ) → i < 1 → pos 0 <ℤ entry (row_at (y_axis ∷ []) i) (column (1 ∷ []) i)
-    positive zero l = lt_z_yes tt
+    positive : (i : ℕ) → i < 1 → pos 0 <ℤ entry (row_at (b ∷ []) i) (column (c ∷ []) i)
+    positive zero l = up
     positive (suc i) l = absurd (omega arith)
 
-    primitive : (i : ℕ) → i < 1 → IsPrimitive (row_at (y_axis ∷ []) i)
-    primitive zero l = primitive_by_one y_axis 1 refl
+    primitive : (i : ℕ) → i < 1 → IsPrimitive (row_at (b ∷ []) i)
+    primitive zero l = prime
     primitive (suc i) l = absurd (omega arith)
 
-    before : (i c : ℕ) → i < 1 → c < column (1 ∷ []) i → entry (row_at (y_axis ∷ []) i) c ≡ pos 0
-    before zero zero l m = refl
-    before zero (suc c) l m = absurd (omega arith)
-    before (suc i) c l m = absurd (omega arith)
+    before : (i d : ℕ) → i < 1 → d < column (c ∷ []) i → entry (row_at (b ∷ []) i) d ≡ pos 0
+    before zero d l m = zeros d m
+    before (suc i) d l m = absurd (omega arith)
+
+pub y_echelon : IsEchelonBasis 2 (y_axis ∷ []) (1 ∷ [])
+y_echelon = one_echelon 2 y_axis 1 refl (lt_z_yes tt) before (primitive_by_one y_axis 1 refl)
+  where
+    before : (d : ℕ) → d < 1 → entry y_axis d ≡ pos 0
+    before zero l = refl
+    before (suc d) l = absurd (omega arith)
 
 basis_and_row : IsBasisAndRow 2 (diagonal ∷ y_axis ∷ []) [] (x_axis ∷ []) (y_axis ∷ diagonal ∷ [])
 basis_and_row = record {

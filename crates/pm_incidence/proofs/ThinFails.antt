@@ -1,7 +1,7 @@
 -- The refusals of eliminations, as refusals of thinning.
 use Rattle.pm_vector.specs.Rows.{Row}
 use Rattle.pm_vector.proofs.Lists.{Among, Contains_among, among_Contains, among_append, among_append_left, among_append_right, here, there}
-use Rattle.pm_incidence.proofs.Products.{stays_turned, unit_stays}
+use Rattle.pm_incidence.proofs.Products.{only_one, stays_turned, unit_stays}
 use Rattle.pm_incidence.specs.SetRows.{IsWideWith}
 use Rattle.pm_object_type.specs.declared.object_type.ObjectType.{ObjectType}
 use Rattle.pm_object_type.specs.declared.object_type.ObjectType.TheVariants.{Cone, Fan, Polytope}
@@ -10,7 +10,7 @@ use Rattle.pm_elim.specs.Evidence.{IfWide}
 use Rattle.pm_elim.specs.declared.evidence.ElimFail.{ElimFail}
 use Rattle.pm_elim.specs.declared.evidence.ElimFail.TheVariants.{Memory, Wide}
 use Rattle.pm_incidence.specs.Fails.{exchanged, thin_fail_of}
-use Rattle.pm_incidence.specs.Thinning.{IsFacetsFail, IsInsideFail, IsRanged, IsReductionFail, IsThinFail, IsWideReduction, flat_group, half_spaces}
+use Rattle.pm_incidence.specs.Thinning.{IsFacetsFail, IsInsideFail, IsProductFail, IsRanged, IsReductionFail, IsThinFail, IsWideReduction, flat_group, half_spaces}
 use Rattle.pm_elim.specs.Evidence.{IsBasisOf, IsEvidence, unit}
 use Rattle.pm_geom.specs.declared.evidence.Evidence.TheVariants.{E1, E2, E3, E4, E5Cells, E5Faces, E5Rays, E5Rows}
 use Rattle.pm_incidence.specs.declared.fails.ThinFail.{ThinFail}
@@ -42,6 +42,13 @@ reduction_of_elimination n B G row Memory c h = tt
 pub ranged_elimination : (f : ElimFail) → IsRanged (thin_fail_of f)
 ranged_elimination (Wide e) = tt
 ranged_elimination Memory = tt
+
+-- the product of a row with one of many
+pub product_in_list : (G A : List Row) (a : Row) (f : ThinFail) → Contains A a → IsProductFail G (a ∷ []) f → IsProductFail G A f
+product_in_list G A a (thin.Wide (E4 g b)) c h = record { generator = h.generator; inequality = subst (Contains A) (sym (only_one h.inequality)) c; wide = h.wide }
+product_in_list G A a (thin.Wide e) c h = absurd h
+product_in_list G A a (thin.Many e) c h = absurd h
+product_in_list G A a thin.Memory c h = tt
 
 -- a refusal of half-spaces names one of the rows that were handed in: the products of (1, 0, .., 0) never leave the range
 half_space : (of : ObjectType) (n : ℕ) (A E : List Row) (x : Row) → Among x (half_spaces of n A) → Among x (A ++ E) ⊎ (x ≡ unit n 0)

@@ -4,5 +4,7 @@ pub mod Fails
 pub mod Thinning
 pub mod FromSets
 pub mod SetRows
+pub mod Lost
+pub mod LostExamples
 pub mod ThinExamples
 pub mod Short

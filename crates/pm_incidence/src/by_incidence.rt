@@ -6,10 +6,11 @@ ghost use Rattle.pm_vector.specs.Rows.{HasCols};
 ghost use Rattle.pm_vector.specs.Bases.{IsEchelonBasis};
 ghost use Rattle.pm_elim.specs.Evidence.{unit};
 ghost use Rattle.pm_geom.specs.Generators.{AreGenerators};
+ghost use Rattle.pm_incidence.specs.Lost.{IfThinWide, ThinningIsLost};
 ghost use Rattle.pm_incidence.specs.Thinning.{HasPointAmong, IsThinFail, half_spaces};
 ghost use Rattle.pm_types.specs.Right.{CutsOutOf};
 ghost use Rattle.std.specs.List.{range_with_len};
-ghost use Rattle.std.specs.Prelude.{IfErr, IfOk, IsTrue, List, length, map, ◌<◌, ◌^◌, ◌≡◌, ◌≤◌, ◌↔◌, ◌≢◌, ℕ};
+ghost use Rattle.std.specs.Prelude.{IfErr, IfOk, IsTrue, List, length, map, true, ◌<◌, ◌^◌, ◌≡◌, ◌≤◌, ◌↔◌, ◌≢◌, ℕ};
 
 use crate::fails::ThinFail;
 use crate::thin::thin;
@@ -74,8 +75,9 @@ pub fn unit_rows(alloc: Global, cols: usize) -> Result<Vec<Ints>, AllocError>
 /// The rays are primitive, with zeros in the pivot columns of that basis, each once and in lexicographic order.
 /// `Wide` only with evidence: E1 on the rows of the lineality and then the reduced row, E4 on a ray and a half-space;
 /// `Many` never.
-/// With `wide` the eliminations are worked by wide numbers where those of the range do not suffice; a refusal is
-/// still one of the range alone.
+/// With `wide` it goes on by wide numbers where a number leaves the range. Then it is `Wide` only where the elimination
+/// of the rows of the lineality, or the reduction of a row by their basis, is lost by these too: no row in the range is
+/// what a step of it makes. The evidence is still that of the range.
 pub fn vertices_by_incidence(
     alloc: Global,
     of: ObjectType,
@@ -102,6 +104,8 @@ pub fn vertices_by_incidence(
     ensures echelon { IfOk result (λ r. (P : List ℕ) × IsEchelonBasis cols r.lineality.items P) }
     ensures failed { IfErr result (IsThinFail cols g.now.rays.items g.now.lineality.items
         (half_spaces of cols f.now.facets.items)) }
+    ensures lost { wide ≡ true → IfErr result (λ e. IfThinWide e (ThinningIsLost cols g.now.rays.items
+        g.now.lineality.items (half_spaces of cols f.now.facets.items))) }
 {
     if !has_point(of, &g.rays) {
         return Ok(Generators {

@@ -7,11 +7,12 @@ ghost use Rattle.pm_dd.specs.Fronts.{HalfSpaces};
 ghost use Rattle.pm_elim.specs.NullSpaces.{IsNull};
 ghost use Rattle.pm_geom.specs.Cones.{CutOut, IsValid};
 ghost use Rattle.pm_geom.specs.Generators.{AreGenerators};
+ghost use Rattle.pm_incidence.specs.Lost.{IfThinWide, ThinningIsLost};
 ghost use Rattle.pm_incidence.specs.SetRows.{IsWideWith};
 ghost use Rattle.pm_incidence.specs.Thinning.{AreThinPlaces, HasPointAmong, IsBehind, IsFacetsFail, IsInsideFail, half_spaces};
 ghost use Rattle.pm_types.specs.Right.{CutsOutOf};
 ghost use Rattle.std.specs.List.{All};
-ghost use Rattle.std.specs.Prelude.{IfErr, IfOk, IsTrue, List, [], length, ◌++◌, ◌+◌, ◌<◌, ◌^◌, ◌∷◌, ◌≡◌, ◌≤◌, ◌↔◌, ◌≢◌, ℕ};
+ghost use Rattle.std.specs.Prelude.{IfErr, IfOk, IsTrue, List, [], length, true, ◌++◌, ◌+◌, ◌<◌, ◌^◌, ◌∷◌, ◌≡◌, ◌≤◌, ◌↔◌, ◌≢◌, ℕ};
 
 use crate::by_incidence::{half_spaces, has_point, unit_rows};
 use crate::fails::ThinFail;
@@ -25,14 +26,15 @@ use pm_vector::Ints;
 use std::alloc::{AllocError, Global};
 
 /// Whether no inequality is negative on a ray.
-fn is_cut_out(alloc: Global, rows: &[Ints], ray: &Ints) -> Result<bool, ThinFail>
+fn is_cut_out(alloc: Global, rows: &[Ints], ray: &Ints, wide: bool) -> Result<bool, ThinFail>
     requires cols { HasCols (length ray.now) rows.now }
     ensures inside { IfOk result (λ b. IsTrue b ↔ CutOut rows.now ray.now) }
     ensures failed { IfErr result (IsWideWith ray.now rows.now) }
+    ensures total { wide ≡ true → IfErr result (λ f. f ≡ ThinFail.Memory) }
 {
     for row in rows {
-        let value = product(alloc, ray, row)?;
-        if value < 0 {
+        let value = product(alloc, ray, row, wide)?;
+        if value.is_negative() {
             return Ok(false);
         }
     }
@@ -40,14 +42,15 @@ fn is_cut_out(alloc: Global, rows: &[Ints], ray: &Ints) -> Result<bool, ThinFail
 }
 
 /// Whether each equation vanishes on a ray.
-fn is_null(alloc: Global, equations: &[Ints], ray: &Ints) -> Result<bool, ThinFail>
+fn is_null(alloc: Global, equations: &[Ints], ray: &Ints, wide: bool) -> Result<bool, ThinFail>
     requires cols { HasCols (length ray.now) equations.now }
     ensures inside { IfOk result (λ b. IsTrue b ↔ IsNull equations.now ray.now) }
     ensures failed { IfErr result (IsWideWith ray.now equations.now) }
+    ensures total { wide ≡ true → IfErr result (λ f. f ≡ ThinFail.Memory) }
 {
     for row in equations {
-        let value = product(alloc, ray, row)?;
-        if value != 0 {
+        let value = product(alloc, ray, row, wide)?;
+        if !value.is_zero() {
             return Ok(false);
         }
     }
@@ -69,6 +72,7 @@ fn is_inside(
     rows: &[Ints],
     equations: &[Ints],
     ray: &Ints,
+    wide: bool,
 ) -> Result<bool, ThinFail>
     requires row_cols { HasCols (length ray.now) rows.now }
     requires equation_cols { HasCols (length ray.now) equations.now }
@@ -76,18 +80,20 @@ fn is_inside(
     ensures inside { IfOk result (λ b. IsTrue b
         ↔ HalfSpaces equations.now (half_spaces of (length ray.now) rows.now) ray.now) }
     ensures failed { IfErr result (IsWideWith ray.now (rows.now ++ equations.now)) }
+    ensures total { wide ≡ true → IfErr result (λ f. f ≡ ThinFail.Memory) }
 {
     if is_behind(of, ray) {
         return Ok(false);
     }
-    let cut_out = is_cut_out(alloc, rows, ray)?;
+    let cut_out = is_cut_out(alloc, rows, ray, wide)?;
     if !cut_out {
         return Ok(false);
     }
-    is_null(alloc, equations, ray)
+    is_null(alloc, equations, ray, wide)
 }
 
-/// Whether all rays are in the cone that half-spaces describe.
+/// Whether all rays are in the cone that half-spaces describe. With `wide` it tells also where a product leaves the
+/// range, and fails for want of memory alone.
 fn are_inside(
     alloc: Global,
     of: ObjectType,
@@ -95,6 +101,7 @@ fn are_inside(
     rows: &[Ints],
     equations: &[Ints],
     rays: &[Ints],
+    wide: bool,
 ) -> Result<bool, ThinFail>
     requires row_cols { HasCols cols rows.now }
     requires equation_cols { HasCols cols equations.now }
@@ -103,9 +110,10 @@ fn are_inside(
     ensures inside { IfOk result (λ b. IsTrue b
         ↔ All (HalfSpaces equations.now (half_spaces of cols rows.now)) rays.now) }
     ensures failed { IfErr result (IsInsideFail rows.now equations.now rays.now) }
+    ensures total { wide ≡ true → IfErr result (λ f. f ≡ ThinFail.Memory) }
 {
     for ray in rays {
-        let inside = is_inside(alloc, of, rows, equations, ray)?;
+        let inside = is_inside(alloc, of, rows, equations, ray, wide)?;
         if !inside {
             return Ok(false);
         }
@@ -135,6 +143,8 @@ fn kept_halves(
     ensures kept { IfOk result (λ k.
         AreThinPlaces cols halves.now equations.now rays.now k.basis.rows k.basis.pivots k.places.items) }
     ensures failed { IfErr result (IsFacetsFail of cols rows.now equations.now rays.now) }
+    ensures lost { wide ≡ true → IfErr result (λ f.
+        IfThinWide f (ThinningIsLost cols halves.now equations.now rays.now)) }
 {
     match kept_of(alloc, cols, halves, equations, rays, wide) {
         Ok(kept) => Ok(kept),
@@ -155,7 +165,7 @@ fn as_evidence(alloc: Global, places: &[usize]) -> Result<Vec<u32>, AllocError>
 }
 
 /// How many of the kept places are taken: all of them, unless they are too many. Then they are facets, or no thing
-/// has these half-spaces and rays.
+/// has these half-spaces and rays. With `wide` it is never `Wide`.
 fn taken(
     alloc: Global,
     of: ObjectType,
@@ -164,6 +174,7 @@ fn taken(
     equations: &[Ints],
     rays: &[Ints],
     kept: &Kept,
+    wide: bool,
 ) -> Result<usize, ThinFail>
     requires row_cols { HasCols cols rows.now }
     requires equation_cols { HasCols cols equations.now }
@@ -178,11 +189,12 @@ fn taken(
     ensures all { IfOk result (λ k. All (HalfSpaces equations.now (half_spaces of cols rows.now)) rays.now
         → k ≡ length kept.now.places.items) }
     ensures failed { IfErr result (IsFacetsFail of cols rows.now equations.now rays.now) }
+    ensures never_wide { wide ≡ true → IfErr result (λ f. IfThinWide f ⊥) }
 {
     if kept.places.len() <= MOST_ROWS {
         return Ok(kept.places.len());
     }
-    let inside = are_inside(alloc, of, cols, rows, equations, rays)?;
+    let inside = are_inside(alloc, of, cols, rows, equations, rays, wide)?;
     if inside {
         let places = as_evidence(alloc, &kept.places)?;
         return Err(ThinFail::Many(Evidence::E5Rows {
@@ -199,8 +211,9 @@ fn taken(
 /// `Wide` only with evidence: E1 on the rows that vanish and then the reduced row, E4 on a ray and a half-space or
 /// equation. `Many` only with more than `MOST_ROWS` facet rows among the half-spaces (E5): of more than `MOST_ROWS`
 /// half-spaces, where the rays generate the thing.
-/// With `wide` the eliminations are worked by wide numbers where those of the range do not suffice; a refusal is
-/// still one of the range alone.
+/// With `wide` it goes on by wide numbers where a number leaves the range. Then it is `Wide` only where the elimination
+/// of the rows that vanish, or the reduction of a half-space by their basis, is lost by these too: no row in the range
+/// is what a step of it makes. The evidence is still that of the range.
 pub fn facets_by_incidence(
     alloc: Global,
     of: ObjectType,
@@ -226,6 +239,8 @@ pub fn facets_by_incidence(
     ensures few { IfOk result (λ f. length f.facets.items ≤ MOST_ROWS) }
     ensures echelon { IfOk result (λ f. (P : List ℕ) × IsEchelonBasis cols f.hull.items P) }
     ensures failed { IfErr result (IsFacetsFail of cols rows.now equations.now g.now.rays.items) }
+    ensures lost { wide ≡ true → IfErr result (λ f. IfThinWide f
+        (ThinningIsLost cols (half_spaces of cols rows.now) equations.now g.now.rays.items)) }
 {
     if !has_point(of, &g.rays) {
         return Ok(Facets {
@@ -235,7 +250,7 @@ pub fn facets_by_incidence(
     }
     let halves = half_spaces(alloc, of, cols, rows)?;
     let kept = kept_halves(alloc, of, cols, rows, equations, &halves, &g.rays, wide)?;
-    let count = taken(alloc, of, cols, rows, equations, &g.rays, &kept)?;
+    let count = taken(alloc, of, cols, rows, equations, &g.rays, &kept, wide)?;
     let facets = thinned_rows(
         alloc,
         cols,

@@ -3,23 +3,26 @@
 
 ghost use Rattle.pm_vector.specs.Rows.{HasCols, Row, dot as dot_of, entry};
 ghost use Rattle.pm_vector.specs.Bases.{IsEchelonBasis};
+ghost use Rattle.pm_vector.specs.WideInts.{value_of};
 ghost use Rattle.pm_dd.specs.Fronts.{HalfSpaces};
 ghost use Rattle.pm_elim.specs.Evidence.{unit};
+ghost use Rattle.pm_elim.specs.Lost.{IsLostOnExtended};
 ghost use Rattle.pm_elim.specs.NullSpaces.{IsNullBasis};
 ghost use Rattle.pm_geom.specs.Cones.{IsOrder, IsValid};
 ghost use Rattle.pm_geom.specs.Evidence.{IsWideProduct};
 ghost use Rattle.pm_incidence.specs.Fails.{exchanged};
 ghost use Rattle.pm_incidence.specs.FromSets.{AreCanonicalFor, AreDetermined, IsSetsFail, IsTurnedSetsFail, determining, holders_from, rows_at, turned};
+ghost use Rattle.pm_incidence.specs.Lost.{IfThinWide, SetsAreLost};
 ghost use Rattle.pm_incidence.specs.SetRows.{IsFound, IsTurned, IsWideWith, first_product};
 ghost use Rattle.pm_types.specs.Right.{IsIncidence};
-ghost use Rattle.std.specs.Prelude.{All, IfErr, IfOk, IsTrue, List, MatchOption, [], length, map, pos, replicate, ◌++◌, ◌<ℤ◌, ◌<◌, ◌^◌, ◌∷◌, ◌≡◌, ◌≤◌, ◌↔◌, ℕ};
+ghost use Rattle.std.specs.Prelude.{All, IfErr, IfOk, IsTrue, List, MatchOption, [], length, map, pos, replicate, true, ◌++◌, ◌<ℤ◌, ◌<◌, ◌^◌, ◌∷◌, ◌≡◌, ◌≤◌, ◌↔◌, ℕ};
 
 use crate::fails::ThinFail;
 use pm_elim::{copies, null_space_by};
 use pm_geom::descriptions::{Facets, Generators};
 use pm_geom::{Evidence, unit_row};
 use pm_types::Sets;
-use pm_vector::{Ints, Wide, dot, negate};
+use pm_vector::{Ints, WideInt, dot, negate, wide_dot};
 use std::alloc::{AllocError, Global};
 
 /// The first column in which a row is not 0, and its length for a row of zeros.
@@ -106,20 +109,29 @@ fn determining_rows(
     add_units(alloc, cols, pivots, more)
 }
 
-/// The product of a row with a cut.
-pub(crate) fn product(alloc: Global, row: &Ints, cut: &Ints) -> Result<i128, ThinFail>
+/// The product of a row with a cut; with `wide`, however wide it is.
+pub(crate) fn product(
+    alloc: Global,
+    row: &Ints,
+    cut: &Ints,
+    wide: bool,
+) -> Result<WideInt, ThinFail>
     requires { length row.now ≡ length cut.now }
-    ensures value { IfOk result (λ k. k ≡ dot_of row.now cut.now) }
+    ensures value { IfOk result (λ k. value_of k ≡ dot_of row.now cut.now) }
     ensures failed { IfErr result (IsWideWith row.now (cut.now ∷ [])) }
+    ensures total { wide ≡ true → IfErr result (λ f. f ≡ ThinFail.Memory) }
 {
-    match dot(row.as_slice(), cut.as_slice()) {
-        Ok(product) => Ok(product),
-        Err(Wide) => Err(wide(alloc, row, cut)?),
+    if let Ok(product) = dot(row.as_slice(), cut.as_slice()) {
+        return Ok(WideInt::of(product));
     }
+    if wide {
+        return Ok(wide_dot(row.as_slice(), cut.as_slice()));
+    }
+    Err(wide_rows(alloc, row, cut)?)
 }
 
 /// The evidence of two rows whose product leaves the range.
-fn wide(alloc: Global, row: &Ints, cut: &Ints) -> Result<ThinFail, AllocError>
+fn wide_rows(alloc: Global, row: &Ints, cut: &Ints) -> Result<ThinFail, AllocError>
     requires { IsWideProduct row.now cut.now }
     ensures { IfOk result (IsWideWith row.now (cut.now ∷ [])) }
 {
@@ -130,28 +142,30 @@ fn wide(alloc: Global, row: &Ints, cut: &Ints) -> Result<ThinFail, AllocError>
 }
 
 /// Whether the first product of a row with the cuts that is not 0 is negative.
-fn is_negative(alloc: Global, cuts: &[Ints], row: &Ints) -> Result<bool, ThinFail>
+fn is_negative(alloc: Global, cuts: &[Ints], row: &Ints, wide: bool) -> Result<bool, ThinFail>
     requires { HasCols (length row.now) cuts.now }
     ensures sign { IfOk result (λ b. IsTrue b ↔ (first_product row.now cuts.now <ℤ pos 0)) }
     ensures failed { IfErr result (IsWideWith row.now cuts.now) }
+    ensures total { wide ≡ true → IfErr result (λ f. f ≡ ThinFail.Memory) }
 {
     for cut in cuts {
-        let product = product(alloc, row, cut)?;
-        if product != 0 {
-            return Ok(product < 0);
+        let product = product(alloc, row, cut, wide)?;
+        if !product.is_zero() {
+            return Ok(product.is_negative());
         }
     }
     Ok(false)
 }
 
 /// The row or its opposite: the first product with the cuts that is not 0 is positive.
-fn turned_up(alloc: Global, cuts: &[Ints], row: Ints) -> Result<Ints, ThinFail>
+fn turned_up(alloc: Global, cuts: &[Ints], row: Ints, wide: bool) -> Result<Ints, ThinFail>
     requires { HasCols (length row) cuts.now }
     ensures turned { IfOk result (λ r. IsTurned cuts.now row r) }
     ensures failed { IfErr result (IsWideWith row cuts.now) }
+    ensures total { wide ≡ true → IfErr result (λ f. f ≡ ThinFail.Memory) }
 {
     let mut row = row;
-    if is_negative(alloc, cuts, &row)? {
+    if is_negative(alloc, cuts, &row, wide)? {
         negate(&mut row);
     }
     Ok(row)
@@ -187,10 +201,12 @@ fn ray_of_set(
     ensures failed { IfErr result (λ f. (lines : List Row)
         → IsNullBasis cols (equations.now ++ cuts.now) lines pivots.now
         → IsSetsFail cols equations.now cuts.now (set.now ∷ []) f) }
+    ensures lost { wide ≡ true → IfErr result (λ f. IfThinWide f
+        (IsLostOnExtended cols (determining cols equations.now cuts.now set.now pivots.now))) }
 {
     let rows = determining_rows(alloc, cols, cuts, equations, set, pivots)?;
     match only(null_space_by(alloc, &rows, cols, wide)?) {
-        Some(row) => turned_up(alloc, cuts, row),
+        Some(row) => turned_up(alloc, cuts, row, wide),
         None => Ok(zero_row(alloc, cols)?),
     }
 }
@@ -212,6 +228,8 @@ fn lineality_pivots(
         × IsNullBasis cols (equations.now ++ cuts.now) lines v.items) }
     ensures failed { IfErr result (λ f. (sets : List (List ℕ))
         → IsSetsFail cols equations.now cuts.now sets f) }
+    ensures lost { wide ≡ true → IfErr result (λ f.
+        IfThinWide f (IsLostOnExtended cols (equations.now ++ cuts.now))) }
 {
     let mut rows = copies(alloc, equations)?;
     for cut in cuts {
@@ -249,6 +267,8 @@ fn rays_of_sets(
     ensures determined { IfOk result (λ r.
         AreDetermined cols equations.now cuts.now (map (λ s. s.items) sets.now) r.items) }
     ensures failed { IfErr result (IsSetsFail cols equations.now cuts.now (map (λ r. r.items) sets.now)) }
+    ensures lost { wide ≡ true → IfErr result (λ f. IfThinWide f
+        (SetsAreLost cols equations.now cuts.now (map (λ r. r.items) sets.now))) }
 {
     let pivots = lineality_pivots(alloc, cols, cuts, equations, wide)?;
     let mut rows = Vec::new(alloc);
@@ -289,8 +309,9 @@ fn turned_sets(alloc: Global, s: &Sets) -> Result<Sets, AllocError>
 /// sets: primitive, and with zeros in the pivot columns of the echelon basis of the lineality.
 /// A column that determines no ray gets a row of zeros. `Wide` only with evidence: E1 on AFFINE_HULL and FACETS, or
 /// on rows that determine the ray of a column; E4 on such a ray and a facet row.
-/// With `wide` the eliminations are worked by wide numbers where those of the range do not suffice; a refusal is
-/// still one of the range alone.
+/// With `wide` it goes on by wide numbers where a number leaves the range. Then it is `Wide` only where one of these
+/// null spaces is lost by these too, that of AFFINE_HULL and FACETS or that of rows that determine the ray of a column:
+/// no row in the range is what a step of its elimination makes. The evidence is still that of the range.
 pub fn vertices_from_sets(
     alloc: Global,
     cols: usize,
@@ -315,6 +336,8 @@ pub fn vertices_from_sets(
     ensures determined { IfOk result (λ r. AreDetermined cols f.now.hull.items f.now.facets.items
         (turned s.now) r.items) }
     ensures failed { IfErr result (IsSetsFail cols f.now.hull.items f.now.facets.items (turned s.now)) }
+    ensures lost { wide ≡ true → IfErr result (λ e. IfThinWide e
+        (SetsAreLost cols f.now.hull.items f.now.facets.items (turned s.now))) }
 {
     let sets = turned_sets(alloc, s)?;
     rays_of_sets(alloc, cols, &f.facets, &f.hull, sets.rows(), wide)
@@ -339,8 +362,9 @@ pub(crate) fn exchanged(fail: ThinFail) -> ThinFail
 /// and with zeros in the pivot columns of the echelon basis of the rows that vanish.
 /// A set that determines no facet row gets a row of zeros. `Wide` only with evidence: E1 on LINEALITY_SPACE and
 /// VERTICES, or on rows that determine the row of a set; E4 on a ray and such a row.
-/// With `wide` the eliminations are worked by wide numbers where those of the range do not suffice; a refusal is
-/// still one of the range alone.
+/// With `wide` it goes on by wide numbers where a number leaves the range. Then it is `Wide` only where one of these
+/// null spaces is lost by these too, that of LINEALITY_SPACE and VERTICES or that of rows that determine the row of a
+/// set: no row in the range is what a step of its elimination makes. The evidence is still that of the range.
 pub fn facets_from_sets(
     alloc: Global,
     cols: usize,
@@ -365,6 +389,8 @@ pub fn facets_from_sets(
     ensures determined { IfOk result (λ r.
         AreDetermined cols g.now.lineality.items g.now.rays.items s.now.rows r.items) }
     ensures failed { IfErr result (IsTurnedSetsFail cols g.now.lineality.items g.now.rays.items s.now.rows) }
+    ensures lost { wide ≡ true → IfErr result (λ f. IfThinWide f
+        (SetsAreLost cols g.now.lineality.items g.now.rays.items s.now.rows)) }
 {
     match rays_of_sets(alloc, cols, &g.rays, &g.lineality, s.rows(), wide) {
         Ok(rows) => Ok(rows),

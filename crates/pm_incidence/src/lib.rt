@@ -3,6 +3,7 @@
 #![tactic(auto)]
 
 ghost use Rattle.pm_incidence.specs.Examples.{IncidenceIsRead, ShortRowsAreRead};
+ghost use Rattle.pm_incidence.specs.LostExamples.{LostSetsAreRead, LostThinningIsRead};
 ghost use Rattle.pm_incidence.specs.ThinExamples.{FacetPlacesAreRead, KeptAreRead, RowsFromSetsAreRead, ThinningIsRead};
 
 mod by_incidence;
@@ -50,4 +51,10 @@ pub fn example_facet_places()
 /// The definitions of rows from sets, of the quadrant and of a half plane.
 pub fn example_rows_from_sets()
     ensures { RowsFromSetsAreRead }
+{}
+
+/// Which thinnings by wide numbers are given up, of rows of three entries, and which rows from sets, of rows of two.
+pub fn example_lost()
+    ensures thinning { LostThinningIsRead }
+    ensures sets { LostSetsAreRead }
 {}

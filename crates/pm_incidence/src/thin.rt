@@ -4,8 +4,10 @@ ghost use Rattle.pm_vector.specs.Rows.{HasCols, Row};
 ghost use Rattle.pm_vector.specs.Bases.{IsEchelonBasis};
 ghost use Rattle.pm_dd.specs.Fronts.{HalfSpaces};
 ghost use Rattle.pm_elim.specs.Evidence.{IfWide, IsEvidence};
+ghost use Rattle.pm_elim.specs.Lost.{IsLostOnNext};
 ghost use Rattle.pm_geom.specs.Generators.{AreGenerators};
 ghost use Rattle.pm_geom.specs.StatedOrder.{rows_marked};
+ghost use Rattle.pm_incidence.specs.Lost.{IfThinWide, IsLostOnRowOf, ThinningIsLost};
 ghost use Rattle.pm_incidence.specs.Thinning.{Agree, AreSortedThinned, AreThinPlaces, IsRanged, IsReductionFail, IsThinFail, IsThinned};
 ghost use Rattle.std.specs.Prelude.{IfErr, IfOk, List, [], length, true, ℕ, ◌++◌, ◌<◌, ◌^◌, ◌∷◌, ◌≡◌, ◌≤◌};
 ghost use Rattle.std.specs.List.{All};
@@ -43,6 +45,8 @@ fn thinned(alloc: Global, basis: &Echelon, row: &Ints, wide: bool) -> Result<Int
     ensures thinned { IfOk result (IsThinned basis.now.rows basis.now.pivots row.now) }
     ensures wide { IfErr result (λ f.
         IfWide f (λ e. IsEvidence (length row.now) (basis.now.rows ++ row.now ∷ []) e)) }
+    ensures lost { wide ≡ true → IfErr result (λ f.
+        IfWide f (λ _. IsLostOnNext basis.now.rows basis.now.pivots row.now)) }
 {
     let mut made = reduced_by(alloc, basis, row, wide)?;
     primitive(&mut made);
@@ -59,7 +63,8 @@ pub struct Kept {
     pub places: Vec<usize>,
 }
 
-/// What is kept of rows that, with the lines, generate the cone that inequalities (`cuts`) cut out.
+/// What is kept of rows that, with the lines, generate the cone that inequalities (`cuts`) cut out. With `wide` it is
+/// `Wide` only where the elimination of the rows that span the lineality is lost by wide numbers too.
 pub(crate) fn kept_of(
     alloc: Global,
     cols: usize,
@@ -79,8 +84,10 @@ pub(crate) fn kept_of(
     ensures few { IfOk result (λ k. length k.places.items ≤ length rows.now) }
     ensures failed { IfErr result (IsThinFail cols rows.now lines.now cuts.now) }
     ensures ranged { IfErr result IsRanged }
+    ensures lost { wide ≡ true → IfErr result (λ f.
+        IfThinWide f (ThinningIsLost cols rows.now lines.now cuts.now)) }
 {
-    let zeros = zero_rows(alloc, cols, rows, cuts)?;
+    let zeros = zero_rows(alloc, cols, rows, cuts, wide)?;
     let marks = full_marks(alloc, &zeros)?;
     let group = with_marked(alloc, lines, rows, &marks)?;
     let basis = echelon_by(alloc, &group, cols, wide)?;
@@ -89,7 +96,8 @@ pub(crate) fn kept_of(
 }
 
 /// The rows at the places, reduced by the basis and made primitive, in lexicographic order. With `wide` they are
-/// reduced by wide numbers where those of the range do not suffice.
+/// reduced by wide numbers where those of the range do not suffice, and it is `Wide` only where some row's reduction is
+/// lost by these too.
 pub fn thinned_rows(
     alloc: Global,
     cols: usize,
@@ -105,6 +113,8 @@ pub fn thinned_rows(
     ensures thinned { IfOk result (λ r.
         AreSortedThinned basis.now.rows basis.now.pivots rows.now places.now r.items) }
     ensures failed { IfErr result (IsReductionFail cols basis.now.rows rows.now) }
+    ensures lost { wide ≡ true → IfErr result (λ f.
+        IfThinWide f (IsLostOnRowOf basis.now.rows basis.now.pivots rows.now)) }
 {
     let mut thin = Vec::new(alloc);
     for place in places {
@@ -136,6 +146,8 @@ pub(crate) fn thin(
     ensures few { IfOk result (λ g. length g.rays.items ≤ length rows.now) }
     ensures echelon { IfOk result (λ g. (P : List ℕ) × IsEchelonBasis cols g.lineality.items P) }
     ensures failed { IfErr result (IsThinFail cols rows.now lines.now cuts.now) }
+    ensures lost { wide ≡ true → IfErr result (λ f.
+        IfThinWide f (ThinningIsLost cols rows.now lines.now cuts.now)) }
 {
     let kept = kept_of(alloc, cols, rows, lines, cuts, wide)?;
     let rays = thinned_rows(alloc, cols, rows, &kept.basis, &kept.places, wide)?;

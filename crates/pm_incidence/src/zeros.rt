@@ -1,17 +1,17 @@
 // On which inequalities rows vanish, as rows of bits; and which rows are kept by them.
 
-ghost use Rattle.pm_vector.specs.Rows.{HasCols};
+ghost use Rattle.pm_vector.specs.Rows.{HasCols, dot as dot_of};
 ghost use Rattle.pm_bits.specs.Sets.{IsSubset, has};
 ghost use Rattle.pm_dd.specs.Tables.{IsZeroSet, zero_set};
 ghost use Rattle.pm_incidence.specs.Short.{IsShort};
 ghost use Rattle.pm_incidence.specs.Thinning.{AreKept, AreZeroSets, IsKeptSet, IsProductFail, IsRanged, MarkFull};
-ghost use Rattle.std.specs.Prelude.{All, IfErr, IfOk, IsTrue, [], get_or, false, length, ℕ, ◌<◌, ◌∷◌, ◌≡◌, ◌≤◌, ◌↔◌};
+ghost use Rattle.std.specs.Prelude.{All, IfErr, IfOk, IsTrue, [], get_or, false, length, pos, true, ℕ, ◌<◌, ◌∷◌, ◌≡◌, ◌≤◌, ◌↔◌};
 
 use crate::fails::ThinFail;
 use crate::short::{are_both_short, short_dot};
 use pm_bits::{BitRow, BitTable};
 use pm_geom::Evidence;
-use pm_vector::{Ints, Wide, dot};
+use pm_vector::{Ints, dot, wide_dot};
 use std::alloc::{AllocError, Global};
 
 // The refusal of two rows whose product leaves the range.
@@ -24,22 +24,36 @@ fn wide_product(alloc: Global, first: &Ints, second: &Ints) -> Result<ThinFail, 
     }))
 }
 
+/// Whether a row vanishes on an inequality; with `wide`, however wide their product is.
+fn vanishes(alloc: Global, row: &Ints, cut: &Ints, wide: bool) -> Result<bool, ThinFail>
+    requires { length cut.now ≡ length row.now }
+    ensures value { IfOk result (λ b. IsTrue b ↔ (dot_of cut.now row.now ≡ pos 0)) }
+    ensures failed { IfErr result (IsProductFail (row.now ∷ []) (cut.now ∷ [])) }
+    ensures ranged { IfErr result IsRanged }
+    ensures total { wide ≡ true → IfErr result (λ f. f ≡ ThinFail.Memory) }
+{
+    if let Ok(product) = dot(cut.as_slice(), row.as_slice()) {
+        return Ok(product == 0);
+    }
+    if wide {
+        return Ok(wide_dot(cut.as_slice(), row.as_slice()).is_zero());
+    }
+    Err(wide_product(alloc, row, cut)?)
+}
+
 /// The set of the inequalities on which a row vanishes.
-fn zero_row(alloc: Global, row: &Ints, cuts: &[Ints]) -> Result<BitRow, ThinFail>
+fn zero_row(alloc: Global, row: &Ints, cuts: &[Ints], wide: bool) -> Result<BitRow, ThinFail>
     requires cols { HasCols (length row.now) cuts.now }
     ensures zeros { IfOk result (IsZeroSet cuts.now (length cuts.now) row.now) }
     ensures failed { IfErr result (IsProductFail (row.now ∷ []) cuts.now) }
     ensures ranged { IfErr result IsRanged }
+    ensures total { wide ≡ true → IfErr result (λ f. f ≡ ThinFail.Memory) }
 {
     let mut zeros = BitRow::with_len(alloc, cuts.len())?;
     for (p, cut) in cuts.iter().enumerate() {
-        match dot(cut.as_slice(), row.as_slice()) {
-            Ok(product) => {
-                if product == 0 {
-                    zeros.set(p);
-                }
-            }
-            Err(Wide) => return Err(wide_product(alloc, row, cut)?),
+        let on = vanishes(alloc, row, cut, wide)?;
+        if on {
+            zeros.set(p);
         }
     }
     Ok(zeros)
@@ -62,25 +76,34 @@ fn short_zero_row(alloc: Global, row: &Ints, cuts: &[Ints]) -> Result<BitRow, Al
 }
 
 /// The set of the inequalities on which a row vanishes, by the quick product where the rows are known to be short.
-fn zero_row_by(alloc: Global, row: &Ints, cuts: &[Ints], short: bool) -> Result<BitRow, ThinFail>
+fn zero_row_by(
+    alloc: Global,
+    row: &Ints,
+    cuts: &[Ints],
+    short: bool,
+    wide: bool,
+) -> Result<BitRow, ThinFail>
     requires cols { HasCols (length row.now) cuts.now }
     requires short { IsTrue short → IsShort row.now × All IsShort cuts.now }
     ensures zeros { IfOk result (IsZeroSet cuts.now (length cuts.now) row.now) }
     ensures failed { IfErr result (IsProductFail (row.now ∷ []) cuts.now) }
     ensures ranged { IfErr result IsRanged }
+    ensures total { wide ≡ true → IfErr result (λ f. f ≡ ThinFail.Memory) }
 {
     if short {
         return Ok(short_zero_row(alloc, row, cuts)?);
     }
-    zero_row(alloc, row, cuts)
+    zero_row(alloc, row, cuts, wide)
 }
 
-/// For each row the set of the inequalities on which it vanishes.
+/// For each row the set of the inequalities on which it vanishes. With `wide` it finds them also where a product
+/// leaves the range, and fails for want of memory alone.
 pub(crate) fn zero_rows(
     alloc: Global,
     cols: usize,
     rows: &[Ints],
     cuts: &[Ints],
+    wide: bool,
 ) -> Result<BitTable, ThinFail>
     requires row_cols { HasCols cols rows.now }
     requires cut_cols { HasCols cols cuts.now }
@@ -88,11 +111,12 @@ pub(crate) fn zero_rows(
     ensures zeros { IfOk result (λ t. AreZeroSets cuts.now rows.now t.rows) }
     ensures failed { IfErr result (IsProductFail rows.now cuts.now) }
     ensures ranged { IfErr result IsRanged }
+    ensures total { wide ≡ true → IfErr result (λ f. f ≡ ThinFail.Memory) }
 {
     let short = are_both_short(rows, cuts);
     let mut zeros = BitTable::new(alloc, cuts.len());
     for row in rows {
-        let Ok(()) = zeros.push(zero_row_by(alloc, row, cuts, short)?) else {
+        let Ok(()) = zeros.push(zero_row_by(alloc, row, cuts, short, wide)?) else {
             return Err(ThinFail::Memory);
         };
     }

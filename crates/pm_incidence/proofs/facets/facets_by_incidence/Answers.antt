@@ -1,5 +1,6 @@
 use Rattle.pm_incidence.proofs.Described.{half_cols, units_echelon, zero_cone, zero_facets}
 use Rattle.pm_incidence.proofs.FacetPlaces.{facets_answered, few_rows, taken_within}
+use Rattle.pm_incidence.proofs.Lost.{reduction_lost}
 use Rattle.pm_incidence.proofs.ThinFails.{facets_reduction}
 use Rattle.pm_incidence.proofs.Thinned.{thinned_cols}
 use Rattle.pm_incidence.proofs.facets.facets_by_incidence.Goals as goal
@@ -31,6 +32,12 @@ returns-in_err-facets-clause-failed c =
     let k = rw (sym c.kept.view_is, c.deref-2.ensures.value, c.in_ok-halves.ensures, c.deref-3.ensures.value) at c.in_ok-kept.ensures.kept in
     let p = err_from_is_err_and c.from_residual-in_err-facets.result c.from_residual-in_err-facets.ensures.1 in
     rw (p.1, p.2) (facets_reduction c.args.of c.args.cols c.args.rows.now c.args.equations.now c.args.g.now.rays.items _ _ k.basis c.in_err-facets.field-0.0 (rw (c.deref-5.ensures.value, c.in_ok-halves.ensures) at c.in_err-facets.ensures.failed))
+
+pub returns-in_err-facets-clause-lost : goal.returns-in_err-facets-clause-lost
+returns-in_err-facets-clause-lost c = λ wide.
+    let k = rw (sym c.kept.view_is, c.deref-2.ensures.value, c.in_ok-halves.ensures, c.deref-3.ensures.value) at c.in_ok-kept.ensures.kept in
+    let p = err_from_is_err_and c.from_residual-in_err-facets.result c.from_residual-in_err-facets.ensures.1 in
+    rw (p.1, p.2) (reduction_lost c.args.cols _ c.args.equations.now c.args.g.now.rays.items _ _ k.basis c.in_err-facets.field-0.0 (rw (c.deref-5.ensures.value, c.in_ok-halves.ensures) at (c.in_err-facets.ensures.lost wide)))
 
 pub returns-clause-facets : goal.returns-clause-facets
 returns-clause-facets c = λ hK cut.
