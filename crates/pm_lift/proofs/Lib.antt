@@ -3,6 +3,8 @@ pub mod CellFacets
 pub mod FoundCells
 pub mod LiftedRows
 pub mod Lifting
+pub mod LostExamples
+pub mod LostRows
 pub mod Outcomes
 pub mod RowsMade
 pub mod SameSites
@@ -11,4 +13,5 @@ pub mod SmallDelaunay
 pub mod SmallRows
 pub mod Sorted
 pub mod Spheres
+pub mod WideRows
 pub mod ZeroSets

@@ -22,12 +22,12 @@ use lib.Signed.{lt_z_yes, ◌<ℤ◌}
 
 -- ---- primitive rows
 -- what holds at the one place below 1
-at_one : (P : ℕ → Type 0) → P 0 → (j : ℕ) → j < 1 → P j
+pub at_one : (P : ℕ → Type 0) → P 0 → (j : ℕ) → j < 1 → P j
 at_one P a zero l = a
 at_one P a (suc k) l = absurd (omega arith)
 
 -- a row of which some entry is 1 or -1 has the greatest common divisor 1
-gcd_one : (x : Row) (i : ℕ) → unsigned_abs (entry x i) ≡ 1 → IsGcdOf x 1
+pub gcd_one : (x : Row) (i : ℕ) → unsigned_abs (entry x i) ≡ 1 → IsGcdOf x 1
 gcd_one x i e = record { divides = λ d. (λ h j. dvd_trans d h (one-dvd (unsigned_abs (entry x j))), λ f. rw e at (f i)) }
 
 -- twice a row with such an entry is not primitive, nor is a greater multiple

@@ -2,10 +2,11 @@
 
 ghost use Rattle.pm_vector.specs.Rows.{HasCols, entry};
 ghost use Rattle.pm_geom.specs.Cells.{AreCells, squares};
+ghost use Rattle.pm_lift.specs.Lost.{IfWideLift, LiftingIsLost, RaisingIsLost};
 ghost use Rattle.pm_lift.specs.Refusals.{IsLiftFail, IsRaiseFail};
 ghost use Rattle.pm_lift.specs.Spheres.{HasAffineFunction, HasEmptySphere};
 ghost use Rattle.pm_geom.specs.Graphs.{holds};
-ghost use Rattle.std.specs.Prelude.{All, IfErr, IfOk, length, map, pos, ◌<ℤ◌, ◌<◌, ◌^◌, ◌≡◌, ◌≤◌};
+ghost use Rattle.std.specs.Prelude.{All, IfErr, IfOk, length, map, pos, true, ◌<ℤ◌, ◌<◌, ◌^◌, ◌≡◌, ◌≤◌};
 ghost use Rattle.pm_limits.specs.Limits.{most_rows};
 
 use crate::fails::LiftFail;
@@ -22,8 +23,9 @@ use std::alloc::Global;
 /// of no sites the one cell is empty.
 /// `Wide` only with evidence: E4 on a site and its height, or on a lifted row and a facet row of the cone of the
 /// lifted rows and the row upwards; E1 or E2 on these rows. `Many` only with E5 on these rows.
-/// With `wide` a step of double description that leaves the range is worked by wide numbers; a refusal is still that
-/// of a step by numbers of the range alone.
+/// With `wide` a product, or a step of double description, that leaves the range is worked by wide numbers; a refusal
+/// is still that by numbers of the range alone, and `Wide` comes only where besides no row in the range is the lifted
+/// row of some site, or double description of these rows is lost by wide numbers too.
 pub fn regular_cells(
     alloc: Global,
     cols: usize,
@@ -39,8 +41,10 @@ pub fn regular_cells(
     ensures cells { IfOk result (λ v. AreCells cols sites.now heights.now (map (λ s. s.items) v.items)) }
     ensures few { IfOk result (λ v. length v.items ≤ most_rows) }
     ensures failed { IfErr result (IsLiftFail cols sites.now heights.now) }
+    ensures lost { wide ≡ true → IfErr result (λ f.
+        IfWideLift f (LiftingIsLost cols sites.now heights.now)) }
 {
-    let rows = lifted_rows(alloc, sites, heights)?;
+    let rows = lifted_rows(alloc, sites, heights, wide)?;
     lower_cells(alloc, cols, &rows, wide)
 }
 
@@ -67,7 +71,8 @@ pub fn delaunay_cells(
         All (λ s. HasEmptySphere cols sites.now (holds s)) (map (λ s. s.items) v.items)) }
     ensures few { IfOk result (λ v. length v.items ≤ most_rows) }
     ensures failed { IfErr result (IsRaiseFail cols sites.now) }
+    ensures lost { wide ≡ true → IfErr result (λ f. IfWideLift f (RaisingIsLost cols sites.now)) }
 {
-    let rows = raised_rows(alloc, sites)?;
+    let rows = raised_rows(alloc, sites, wide)?;
     lower_cells(alloc, cols, &rows, wide)
 }

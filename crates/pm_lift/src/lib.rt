@@ -4,6 +4,7 @@
 #![tactic(auto)]
 
 ghost use Rattle.pm_lift.specs.Examples.{CellsAreRead, DelaunayIsRead, LowerFacesAreRead, PlacesAreRead, RefusalsAreRead, RowsAreRead, SitesAreRead};
+ghost use Rattle.pm_lift.specs.LostExamples.{LostCellsAreRead, LostRowsAreRead};
 ghost use Rattle.pm_lift.specs.Laws.{CellsAreFacets, CellsHaveSpheres, CellsOfSameSites, RaisedAreLifted, RowsAreLifted, SquaresOfSameSites};
 
 mod cells;
@@ -11,6 +12,7 @@ mod fails;
 mod products;
 mod rows;
 mod sets;
+mod wide_rows;
 
 pub use cells::{delaunay_cells, regular_cells};
 pub use fails::LiftFail;
@@ -63,4 +65,10 @@ pub fn example_rows()
     ensures rows { RowsAreRead }
     ensures places { PlacesAreRead }
     ensures refusals { RefusalsAreRead }
+{}
+
+/// Which lifted rows are lost by wide numbers, and the cells of which sites.
+pub fn example_lost()
+    ensures rows { LostRowsAreRead }
+    ensures cells { LostCellsAreRead }
 {}
