@@ -10,3 +10,5 @@ mod DoubleLists
 pub mod SortedLaws
 mod RunOutcomes
 mod PlaceOutcomes
+mod PlaceLost
+mod LostExamples

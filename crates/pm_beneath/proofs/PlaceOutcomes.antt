@@ -17,7 +17,6 @@ use Rattle.pm_beneath.specs.Placed.{IsShownPlace, PlacedCellsTriangulate, fail_o
 use Rattle.pm_beneath.proofs.FrontLaws.{all_within}
 use Rattle.pm_beneath.specs.PlacedRuns.{FitsPlaces, IsPlaceFailOf, IsPlacedRun}
 use Rattle.pm_beneath.specs.Runs.{IsCrowdedRun, IsListFail, IsRunTo}
-use Rattle.pm_geom.specs.declared.evidence.Evidence.{Evidence}
 use Rattle.pm_geom.specs.declared.evidence.Evidence.TheVariants.{E1, E2, E3, E4, E5Cells, E5Faces, E5Rays, E5Rows}
 use Rattle.pm_beneath.specs.declared.fails.PlaceFail.{PlaceFail}
 use Rattle.pm_beneath.specs.declared.fails.PlaceFail.TheVariants.{Many, Memory, Wide}

@@ -5,3 +5,4 @@ pub mod DoubleLists
 pub mod Placed
 pub mod StatedLists
 pub mod PlacedRuns
+pub mod LostExamples

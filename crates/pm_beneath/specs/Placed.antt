@@ -17,6 +17,12 @@ fail_of_engine (DdWide e) = Wide e
 fail_of_engine (DdMany e) = Many e
 fail_of_engine DdMemory = Memory
 
+-- Q holds where placing is given up for a number out of the range
+abbrev pub IfPlaceWide : PlaceFail → Type 0 → Type 0
+IfPlaceWide (Wide e) Q = Q
+IfPlaceWide (Many e) Q = Unit {0}
+IfPlaceWide Memory Q = Unit {0}
+
 -- the evidence is of the cells of a front, more than most_rows
 abbrev pub ShowsManyCells : ℕ → List Row → List Row → Evidence → Type 0
 ShowsManyCells n L G (E5Cells front cells) = AreCrowdedCells n L G front cells

@@ -2,6 +2,7 @@
 use Rattle.std.specs.Prelude.{ℕ, zero, suc, ◌+◌, ◌≡◌, ◌<◌, List, [], ◌∷◌, ◌++◌, length, map, take}
 use Rattle.pm_vector.specs.Rows.{Row}
 use Rattle.pm_dd.specs.Fronts.{HalfSpaces}
+use Rattle.pm_dd.specs.Lost.{IfWide}
 use Rattle.pm_dd.specs.Refusals.{IsMemory, IsShown, IsShownOnRows}
 use Rattle.pm_geom.specs.Cones.{IsOrder}
 use Rattle.pm_geom.specs.FaceCounts.{IsLexBefore}
@@ -34,6 +35,11 @@ abbrev pub IsCrowdOf : ℕ → List (List ℕ) → RunFail → Type 0
 IsCrowdOf front T (Engine f) = IsMemory f
 IsCrowdOf front T (Crowd f cells) = (f ≡ front) × HaveSameSets (map (λ s. s.items) cells.items) T
     × AllPairs IsLexBefore (map (λ s. s.items) cells.items) × (most_rows < length cells.items)
+
+-- Q holds where a run is given up for a number out of the range
+abbrev pub IfRunWide : RunFail → Type 0 → Type 0
+IfRunWide (Engine f) Q = IfWide f Q
+IfRunWide (Crowd f cells) Q = Unit {0}
 
 -- T has the cells of the first f rows, each once, and more than most_rows
 pub record IsCrowdedRun (n : ℕ) (E J : List Row) (start f : ℕ) (T : List (List ℕ)) : Type 0 where

@@ -1,11 +1,12 @@
 // The call.
 
 ghost use Rattle.pm_vector.specs.Rows.{HasCols};
-ghost use Rattle.pm_beneath.specs.Placed.{IsShownPlace};
+ghost use Rattle.pm_beneath.specs.Placed.{IfPlaceWide, IsShownPlace};
 ghost use Rattle.pm_dd.specs.Hulls.{AreFacets};
+ghost use Rattle.pm_dd.specs.Lost.{PartsAreLost};
 ghost use Rattle.pm_geom.specs.Triangulations.{IsTriangulation};
 ghost use Rattle.pm_laws_placing.specs.PlacedCells.{IsPlacingTriangulation};
-ghost use Rattle.std.specs.Prelude.{IfErr, IfOk, length, map, ◌<◌, ◌^◌, ◌≤◌};
+ghost use Rattle.std.specs.Prelude.{IfErr, IfOk, length, map, true, ◌<◌, ◌^◌, ◌≡◌, ◌≤◌};
 ghost use Rattle.pm_limits.specs.Limits.{most_rows};
 
 use crate::fails::PlaceFail;
@@ -38,7 +39,8 @@ pub struct Placing {
 /// `Wide` and `Many` come only with evidence on the lineality, or on the double description list, or with the cells
 /// of a front that has more than `MOST_ROWS`.
 /// With `wide` a step that leaves the range is worked by wide numbers; a refusal is still that of a step by numbers
-/// of the range alone.
+/// of the range alone, and `Wide` comes only where an elimination by wide numbers is lost, or the cone of some front has
+/// an extreme ray out of the range.
 pub fn place(
     alloc: Global,
     cols: usize,
@@ -60,6 +62,8 @@ pub fn place(
         IsTriangulation cols rays.now lineality.now (map (λ s. s.items) p.simplices.items)) }
     ensures few_cells { IfOk result (λ p. length p.simplices.items ≤ MOST_ROWS) }
     ensures shown { IfErr result (IsShownPlace cols lineality.now rays.now) }
+    ensures lost { wide ≡ true → IfErr result (λ f.
+        IfPlaceWide f (PartsAreLost cols lineality.now rays.now)) }
 {
     let placed = all_placed(alloc, cols, rays, lineality, wide)?;
     let simplices = ordered_cells(alloc, &placed.whole.cells, &placed.taken.places, rays.len())?;

@@ -5,10 +5,11 @@ ghost use Rattle.pm_vector.specs.Bases.{IsRank, SameSpan, row_at};
 ghost use Rattle.pm_beneath.specs.CellLists.{AreNextCells};
 ghost use Rattle.pm_dd.specs.Building.{StandFor};
 ghost use Rattle.pm_dd.specs.Form.{AreReduced};
+ghost use Rattle.pm_dd.specs.Lost.{HasWideRayOnRows, IfWide};
 ghost use Rattle.pm_dd.specs.Refusals.{IsShownOnRows};
 ghost use Rattle.pm_dd.specs.Tables.{IsRayTable};
 ghost use Rattle.pm_geom.specs.Graphs.{IsAscending};
-ghost use Rattle.std.specs.Prelude.{All, IfErr, IfOk, length, map, take, ◌++◌, ◌+◌, ◌<◌, ◌^◌, ◌≡◌, ◌≤◌};
+ghost use Rattle.std.specs.Prelude.{All, IfErr, IfOk, length, map, take, true, ◌++◌, ◌+◌, ◌<◌, ◌^◌, ◌≡◌, ◌≤◌};
 
 use crate::cells::next_cells;
 use pm_dd::DdFail;
@@ -49,6 +50,8 @@ fn front_products(
     requires reduced { AreReduced cols (equations.now ++ take start rows.now) rays.now.rows.items }
     ensures stand { IfOk result (λ v. StandFor (row_at rows.now front) rays.now.rows.items v.items) }
     ensures shown { IfErr result (IsShownOnRows cols equations.now rows.now start) }
+    ensures lost { wide ≡ true → IfErr result (λ f.
+        IfWide f (HasWideRayOnRows cols equations.now rows.now start)) }
 {
     match products(alloc, &rows[front], &rays.rows, wide) {
         Ok(values) => Ok(values),
@@ -92,6 +95,8 @@ pub(crate) fn next_front(
         AreNextCells rows.now rays.rows.items front (map (λ s. s.items) cells.now) (map (λ s.
         s.items) r.cells.items)) }
     ensures shown { IfErr result (IsShownOnRows cols equations.now rows.now start) }
+    ensures lost { wide ≡ true → IfErr result (λ f.
+        IfWide f (HasWideRayOnRows cols equations.now rows.now start)) }
 {
     let values = front_products(alloc, cols, equations, rows, start, front, &rays, wide)?;
     let made = next_cells(alloc, cells, &values, &rays.zeros, front as u32)?;

@@ -4,6 +4,7 @@
 
 ghost use Rattle.pm_beneath.specs.CellLists.{ListedCellsAreNext};
 ghost use Rattle.pm_beneath.specs.DoubleLists.{DoubleListTriangulates};
+ghost use Rattle.pm_beneath.specs.LostExamples.{PlaceLossesAreRead};
 ghost use Rattle.pm_beneath.specs.Names.{NamesKeepSteps, RunIsPlacing};
 ghost use Rattle.pm_beneath.specs.Placed.{PlacedCellsTriangulate};
 
@@ -45,4 +46,9 @@ pub fn law_double_list_triangulates()
 /// What `place` answers is a triangulation.
 pub fn law_placed_cells_triangulate()
     ensures { PlacedCellsTriangulate }
+{}
+
+/// What is given up for a number out of the range, read on cones of the plane and of the line.
+pub fn example_losses()
+    ensures { PlaceLossesAreRead }
 {}

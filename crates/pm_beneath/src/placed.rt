@@ -1,15 +1,16 @@
 // The facets and the cells of the double description list of a lineality and rays.
 
 ghost use Rattle.pm_vector.specs.Rows.{HasCols};
-ghost use Rattle.pm_beneath.specs.Placed.{IsShownPlace};
+ghost use Rattle.pm_beneath.specs.Placed.{IfPlaceWide, IsShownPlace};
 ghost use Rattle.pm_beneath.specs.PlacedRuns.{FitsPlaces, IsPlaceFailOf, IsPlacedRun};
-ghost use Rattle.pm_beneath.specs.Runs.{IsListFail, IsRunTo};
+ghost use Rattle.pm_beneath.specs.Runs.{IfRunWide, IsListFail, IsRunTo};
 ghost use Rattle.pm_dd.specs.Arrangement.{IsArrangement};
 ghost use Rattle.pm_geom.specs.Cones.{CutOut};
 ghost use Rattle.pm_geom.specs.Generators.{AreGenerators};
 ghost use Rattle.pm_geom.specs.Graphs.{IsAscending};
 ghost use Rattle.pm_dd.specs.Hulls.{AreFacets};
-ghost use Rattle.std.specs.Prelude.{All, IfErr, IfOk, length, map, ◌<◌, ◌^◌, ◌≤◌};
+ghost use Rattle.pm_dd.specs.Lost.{DescriptionIsLost, PartsAreLost};
+ghost use Rattle.std.specs.Prelude.{All, IfErr, IfOk, length, map, true, ◌<◌, ◌^◌, ◌≡◌, ◌≤◌};
 ghost use Rattle.pm_limits.specs.Limits.{most_rows};
 
 use crate::fails::PlaceFail;
@@ -46,6 +47,8 @@ fn list_fronts(
     ensures few { IfOk result (λ w. length w.cells.items ≤ MOST_ROWS) }
     ensures fail { IfErr result
         (IsListFail cols stated.now.list.items stated.now.basis.items stated.now.taken.rows.items stated.now.taken.start) }
+    ensures lost { wide ≡ true → IfErr result (λ f.
+        IfRunWide f (DescriptionIsLost cols stated.now.list.items)) }
 {
     let taken = &stated.taken;
     all_fronts(
@@ -107,6 +110,8 @@ pub(crate) fn all_placed(
         All (λ s. All (λ k. k < length p.taken.places.items) s.items) p.whole.cells.items) }
     ensures few { IfOk result (λ p. length p.whole.cells.items ≤ MOST_ROWS) }
     ensures shown { IfErr result (IsShownPlace cols lineality.now rays.now) }
+    ensures lost { wide ≡ true → IfErr result (λ f.
+        IfPlaceWide f (PartsAreLost cols lineality.now rays.now)) }
 {
     let stated = stated_list(alloc, cols, rays, lineality, wide)?;
     let lead = 2 * stated.basis.len();

@@ -2,14 +2,15 @@
 
 ghost use Rattle.pm_vector.specs.Rows.{HasCols};
 ghost use Rattle.pm_vector.specs.Bases.{IsRank, SameSpan};
-ghost use Rattle.pm_beneath.specs.Runs.{IsCrowdOf, IsRunFail, IsRunTo, below};
+ghost use Rattle.pm_beneath.specs.Runs.{IfRunWide, IsCrowdOf, IsRunFail, IsRunTo, below};
 ghost use Rattle.pm_dd.specs.Form.{AreReduced};
 ghost use Rattle.pm_dd.specs.Fronts.{HalfSpaces};
+ghost use Rattle.pm_dd.specs.Lost.{HasWideRayOnRows};
 ghost use Rattle.pm_dd.specs.Tables.{IsRayTable};
 ghost use Rattle.pm_geom.specs.Cones.{IsOrder};
 ghost use Rattle.pm_geom.specs.Graphs.{IsAscending};
 ghost use Rattle.pm_laws_placing.specs.PlacedCells.{HaveSameSets};
-ghost use Rattle.std.specs.Prelude.{All, IfErr, IfOk, [], length, map, take, ◌++◌, ◌+◌, ◌<◌, ◌^◌, ◌∷◌, ◌≡◌, ◌≤◌};
+ghost use Rattle.std.specs.Prelude.{All, IfErr, IfOk, [], length, map, take, true, ◌++◌, ◌+◌, ◌<◌, ◌^◌, ◌∷◌, ◌≡◌, ◌≤◌};
 
 use crate::fronts::{Front, next_front};
 use crate::sorted::in_order;
@@ -127,6 +128,8 @@ pub(crate) fn all_cells(
         All (IsAscending (length rows.now)) (map (λ s. s.items) r.cells.items)) }
     ensures few { IfOk result (λ r. length r.cells.items ≤ MOST_ROWS) }
     ensures fail { IfErr result (IsRunFail cols equations.now rows.now start) }
+    ensures lost { wide ≡ true → IfErr result (λ f.
+        IfRunWide f (HasWideRayOnRows cols equations.now rows.now start)) }
 {
     let mut rays = first;
     let mut cells = first_cells(alloc, start)?;

@@ -1,9 +1,11 @@
 // The order in which the rays are taken.
 
 ghost use Rattle.pm_vector.specs.Rows.{HasCols};
-ghost use Rattle.pm_beneath.specs.Placed.{IsShownPlace};
+ghost use Rattle.pm_beneath.specs.Placed.{IfPlaceWide, IsShownPlace};
 ghost use Rattle.pm_beneath.specs.StatedLists.{IsStatedList};
+ghost use Rattle.pm_dd.specs.Lost.{PartsAreLost};
 ghost use Rattle.pm_elim.specs.Evidence.{IfWide, IsBasisOf, IsEvidence};
+ghost use Rattle.pm_elim.specs.Lost.{IsLost};
 ghost use Rattle.pm_laws_placing.specs.Placing.{places_marked, stated_places};
 ghost use Rattle.pm_geom.specs.Triangulations.{rows_at};
 ghost use Rattle.std.specs.Prelude.{All, IfErr, IfOk, List, length, true, ◌++◌, ◌<◌, ◌^◌, ◌≡◌, ℕ};
@@ -85,6 +87,7 @@ fn line_basis(
     requires few_columns { cols < 2 ^ 30 }
     ensures basis { IfOk result (λ v. (pivots : List ℕ) × IsBasisOf cols lineality.now v.items pivots) }
     ensures wide { IfErr result (λ f. IfWide f (λ e. IsEvidence cols lineality.now e)) }
+    ensures lost { wide ≡ true → IfErr result (λ f. IfWide f (λ _. IsLost cols lineality.now)) }
 {
     let basis = echelon_by(alloc, lineality, cols, wide)?;
     Ok(basis.rows)
@@ -117,6 +120,8 @@ pub(crate) fn stated_list(
     ensures stated { IfOk result (λ t.
         IsStatedList cols lineality.now rays.now t.basis.items t.list.items t.taken.rows.items t.taken.places.items t.taken.start) }
     ensures shown { IfErr result (IsShownPlace cols lineality.now rays.now) }
+    ensures lost { wide ≡ true → IfErr result (λ f.
+        IfPlaceWide f (PartsAreLost cols lineality.now rays.now)) }
 {
     let basis = line_basis(alloc, cols, lineality, wide)?;
     let signs = both_ways(alloc, &basis)?;

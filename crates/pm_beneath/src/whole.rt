@@ -1,14 +1,16 @@
 // The facets and the cells of all rows, on a list and its arrangement.
 
 ghost use Rattle.pm_vector.specs.Rows.{HasCols};
-ghost use Rattle.pm_beneath.specs.Runs.{IsListFail, IsRunTo};
+ghost use Rattle.pm_beneath.specs.Runs.{IfRunWide, IsListFail, IsRunTo};
 ghost use Rattle.pm_dd.specs.Arrangement.{IsArrangement};
+ghost use Rattle.pm_dd.specs.Lost.{DescriptionIsLost, IfWide};
 ghost use Rattle.pm_dd.specs.Refusals.{IsEliminationFail};
+ghost use Rattle.pm_elim.specs.Lost.{IsLostOnExtended};
 ghost use Rattle.pm_elim.specs.NullSpaces.{IsNullBasis};
 ghost use Rattle.pm_geom.specs.Cones.{CutOut};
 ghost use Rattle.pm_geom.specs.Generators.{AreGenerators};
 ghost use Rattle.pm_geom.specs.Graphs.{IsAscending};
-ghost use Rattle.std.specs.Prelude.{All, IfErr, IfOk, List, length, map, ◌<◌, ◌^◌, ◌≤◌, ℕ};
+ghost use Rattle.std.specs.Prelude.{All, IfErr, IfOk, List, length, map, true, ◌<◌, ◌^◌, ◌≡◌, ◌≤◌, ℕ};
 ghost use Rattle.pm_limits.specs.Limits.{most_rows};
 
 use crate::run::{RunFail, all_cells};
@@ -40,6 +42,7 @@ fn hull_of(
     requires few_columns { cols < 2 ^ 30 }
     ensures null { IfOk result (λ v. (P : List ℕ) × IsNullBasis cols independent.now v.items P) }
     ensures wide { IfErr result (IsEliminationFail cols independent.now) }
+    ensures lost { wide ≡ true → IfErr result (λ f. IfWide f (IsLostOnExtended cols independent.now)) }
 {
     Ok(null_space_by(alloc, independent, cols, wide)?)
 }
@@ -69,6 +72,7 @@ pub(crate) fn all_fronts(
         All (IsAscending (length rows.now)) (map (λ s. s.items) w.cells.items)) }
     ensures few { IfOk result (λ w. length w.cells.items ≤ MOST_ROWS) }
     ensures fail { IfErr result (IsListFail cols list.now equations.now rows.now start) }
+    ensures lost { wide ≡ true → IfErr result (λ f. IfRunWide f (DescriptionIsLost cols list.now)) }
 {
     let independent = first_rows(alloc, equations, rows, start)?;
     let hull = hull_of(alloc, &independent, cols, wide)?;

@@ -1,8 +1,9 @@
 use Rattle.pm_beneath.proofs.FrontLaws.{all_within}
+use Rattle.pm_beneath.proofs.PlaceLost.{place_lost}
 use Rattle.pm_beneath.proofs.PlaceOutcomes.{arranged, basis_few, facets, fits, is_double, places_many, rows_many, shown}
 use Rattle.pm_beneath.proofs.placed.all_placed.Goals as goal
 use Rattle.pm_dd.proofs.HullLaws.{list_cols, list_length}
-use Rattle.std.proofs.Common.{arith, length, ◌*◌}
+use Rattle.std.proofs.Common.{arith, inr, length, ◌*◌}
 
 pub list_fronts-requires-clause-columns : goal.list_fronts-requires-clause-columns
 list_fronts-requires-clause-columns c = list_cols c.args.cols c.args.lineality.now c.args.rays.now c.in_ok-stated.stated.list.items (is_double c.args.cols c.args.lineality.now c.args.rays.now c.in_ok-stated.stated.basis.items c.in_ok-stated.stated.list.items c.in_ok-stated.stated.taken.rows.items c.in_ok-stated.stated.taken.places.items c.in_ok-stated.stated.taken.start c.requires.line_cols c.requires.ray_cols c.in_ok-stated.ensures.stated) c.requires.ray_cols
@@ -51,3 +52,10 @@ returns-in-Err-clause-shown c =
     let h = rw c.in-Err.is at c.list_fronts.ensures.fail in
     let q = rw c.deref.ensures.value at c.place_fail.ensures in
     shown c.args.cols c.args.lineality.now c.args.rays.now c.in_ok-stated.stated.basis.items c.in_ok-stated.stated.list.items c.in_ok-stated.stated.taken.rows.items c.in_ok-stated.stated.taken.places.items c.in_ok-stated.stated.taken.start c.requires.line_cols c.requires.ray_cols c.in_ok-stated.ensures.stated c.in-Err.fail c.place_fail.result (2 * c.len-lead.result) (let n = c.len-lead.ensures in let o = c.in_ok-stated.stated.basis.ok.0 in omega arith) h q
+
+pub returns-in-Err-clause-lost : goal.returns-in-Err-clause-lost
+returns-in-Err-clause-lost c = λ e.
+    let q = rw c.deref.ensures.value at c.place_fail.ensures in
+    let double = is_double c.args.cols c.args.lineality.now c.args.rays.now c.in_ok-stated.stated.basis.items c.in_ok-stated.stated.list.items c.in_ok-stated.stated.taken.rows.items c.in_ok-stated.stated.taken.places.items c.in_ok-stated.stated.taken.start c.requires.line_cols c.requires.ray_cols c.in_ok-stated.ensures.stated in
+    let lost = rw c.in-Err.is at (c.list_fronts.ensures.lost e) in
+    place_lost (length c.args.rays.now) (2 * c.len-lead.result) c.in_ok-stated.stated.taken.places.items c.in-Err.fail c.place_fail.result _ _ (λ h. inr (c.in_ok-stated.stated.list.items, double, h)) q lost

@@ -1,11 +1,13 @@
 use Rattle.pm_beneath.proofs.LeadLaws.{signs_long}
+use Rattle.pm_beneath.proofs.PlaceLost.{elimination_weaker}
 use Rattle.pm_beneath.proofs.PlaceOutcomes.{marks_many, stated_made}
 use Rattle.pm_beneath.proofs.taken.stated_list.Goals as goal
 use Rattle.pm_dd.proofs.LeadingLaws.{rest_of}
 use Rattle.pm_dd.specs.Fronts.{both_signs}
 use Rattle.pm_elim.specs.Enlarging.{MarkEnlarging}
 use Rattle.pm_dd.proofs.HullLaws.{double_list_made, list_cols, list_length}
-use Rattle.std.proofs.Common.{ap, arith, length, ◌*◌, ◌++◌, ◌≡◌, ◌≤◌, ◌∙◌}
+use Rattle.std.proofs.Common.{ap, arith, inl, inr, length, ◌*◌, ◌++◌, ◌≡◌, ◌≤◌, ◌∙◌}
+use Rattle.std.proofs.lemmas.Result.{err_from_is_err_and}
 
 pub enlarging_by-requires-clause-columns : goal.enlarging_by-requires-clause-columns
 enlarging_by-requires-clause-columns c =
@@ -57,3 +59,11 @@ returns-clause-stated c =
     (rw (c.deref-3.ensures.value, lead, rest_of c.in_ok-marks.marks.items (2 * length c.in_ok-basis.basis.items)) at c.in_ok-taken.ensures.places)
     (rw (c.deref-3.ensures.value, lead, rest_of c.in_ok-marks.marks.items (2 * length c.in_ok-basis.basis.items)) at c.in_ok-taken.ensures.rows)
     (rw (c.deref-3.ensures.value, lead, rest_of c.in_ok-marks.marks.items (2 * length c.in_ok-basis.basis.items)) at c.in_ok-taken.ensures.start)
+
+pub returns-in_err-marks-clause-lost : goal.returns-in_err-marks-clause-lost
+returns-in_err-marks-clause-lost c = λ e.
+    let p = err_from_is_err_and c.from_residual-in_err-marks.result c.from_residual-in_err-marks.ensures.1 in
+    let list : c.in_ok-list.list.items ≡ both_signs c.in_ok-basis.basis.items ++ c.args.rays.now = rw (c.in_ok-signs.ensures, c.deref.ensures.value) at c.in_ok-list.ensures in
+    let double = double_list_made c.args.cols c.args.lineality.now c.args.rays.now c.in_ok-basis.basis.items c.in_ok-list.list.items c.in_ok-basis.ensures.basis.0 c.in_ok-basis.ensures.basis.1 list in
+    let lost = rw c.deref-2.ensures.value at (c.in_err-marks.ensures.lost e) in
+    rw (p.1, p.2) (elimination_weaker c.in_err-marks.field-0.0 _ _ (λ h. inr (c.in_ok-list.list.items, double, inl h)) lost)

@@ -1,8 +1,11 @@
+use Rattle.pm_beneath.proofs.PlaceLost.{run_weaker}
 use Rattle.pm_beneath.proofs.whole.all_fronts.Goals as goal
 use Rattle.pm_dd.proofs.Answered.{generators_answered}
-use Rattle.pm_dd.proofs.Arranged.{equation_cols, first_cols, first_few, first_free, first_length, front_spans_all, rank_of_taken, row_cols}
-use Rattle.std.proofs.Common.{arith}
+use Rattle.pm_dd.proofs.Arranged.{equation_cols, first_cols, first_few, first_free, first_length, front_spans_all, rank_of_taken, row_cols, start_lost}
+use Rattle.pm_dd.proofs.Outcomes.{wide_weaker}
+use Rattle.std.proofs.Common.{arith, inl, inr}
 use Rattle.std.proofs.lemmas.List.Sorted.{length_permutation}
+use Rattle.std.proofs.lemmas.Result.{err_from_is_err_and}
 
 pub start_rays-requires-clause-cols : goal.start_rays-requires-clause-cols
 start_rays-requires-clause-cols c = first_cols c.args.cols c.args.list.now c.args.equations.now c.args.rows.now c.args.start c.requires.columns c.requires.arranged
@@ -45,3 +48,13 @@ returns-clause-few_facets c =
     let e = length_permutation c.in_ok-all.all.rays.rows.items c.sort.new.self.items c.in_ok-sort.ensures.permutation in
     let f = c.in_ok-all.ensures.few_rays in
     omega arith
+
+pub returns-in_err-first-clause-lost : goal.returns-in_err-first-clause-lost
+returns-in_err-first-clause-lost c = λ e.
+    let p = err_from_is_err_and c.from_residual-in_err-first.result c.from_residual-in_err-first.ensures.1 in
+    rw (p.1, p.2) (wide_weaker c.in_err-first.field-0.0 _ _ (λ h. inr (inl (start_lost c.args.cols c.args.list.now c.args.equations.now c.args.rows.now c.args.start c.requires.columns c.requires.arranged h))) (c.in_err-first.ensures.lost e))
+
+pub returns-in_err-all-clause-lost : goal.returns-in_err-all-clause-lost
+returns-in_err-all-clause-lost c = λ e.
+    let p = err_from_is_err_and c.from_residual-in_err-all.result c.from_residual-in_err-all.ensures.1 in
+    rw (p.1, p.2) (run_weaker c.in_err-all.field-0.0 _ _ (λ h. inr (inr (h c.args.list.now c.requires.columns c.requires.arranged))) (c.in_err-all.ensures.lost e))
