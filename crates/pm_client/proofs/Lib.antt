@@ -11,6 +11,7 @@ pub mod Puts
 pub mod PlainValues
 pub mod Machine
 pub mod FreshOrders
+pub mod Lost
 mod NoRows
 pub mod Examples
 mod ThinningExamples

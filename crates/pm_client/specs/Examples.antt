@@ -1,4 +1,5 @@
 -- The definitions of starts and of row lists read on small lists: what holds of them, and what does not.
+use Rattle.pm_client.specs.Fails.{IfFailed, IfOutOfRange}
 use Rattle.pm_client.specs.Sound.{AreEnlarging, AreParts, ArePartsOf, AreRowsOf, AreSetsOf, HoldsOf, IsCrowdedLattice, IsCrowdedPlacing, IsWideAtRays, IsWideDual, IsWideFace, IsWideForPrograms, IsWideOptimum, ReadsObjective, finds_optimum, optimum, IsCrowdedThinning, IsDeterminingList, IsDoubleListOf, IsEliminated, IsFlatBasisAndRow, IsFlatList, IsWideFeasibility, IsWideForSets, IsWideProgramOf, IsWideThinningOf, added_rows, are_parts, are_told, determining_rows, double_list, eliminated_by, enlarging_rows, fail_of, fail_of_double, fail_of_lattice, fail_of_program, fail_of_thin, first_part, flat_basis_and_row, flat_rows, line_basis_and_row, line_rows, row_list, sets_of_rows, IsConeList, cone_rows, has_way}
 use Rattle.pm_standard.specs.Ways as way
 use Rattle.pm_props.specs.Properties.{is_generator, is_half_space}
@@ -10,7 +11,7 @@ use Rattle.pm_geom.specs.Faces.{ray}
 use Rattle.pm_geom.specs.Graphs.{sets_of}
 use Rattle.pm_geom.specs.Meets.{AreTooManyMeets}
 use Rattle.pm_geom.specs.declared.evidence.Evidence.{Evidence}
-use Rattle.pm_geom.specs.declared.evidence.Evidence.TheVariants.{E3, E4}
+use Rattle.pm_geom.specs.declared.evidence.Evidence.TheVariants.{E3, E4, E5Cells, E5Faces, E5Rays, E5Rows}
 use Rattle.pm_incidence.specs.Thinning.{AreManyFacets}
 use Rattle.pm_incidence.specs.declared.fails.ThinFail.TheVariants as thinning
 use Rattle.pm_laws_placing.specs.PlacedCells.{AreCrowdedCells}
@@ -397,3 +398,15 @@ pub record ConesAreRead : Type 0 where
   -- what clients eliminate, by their names
   pub of_cones : eliminated_by (codes "fan_dims") ≡ cone_rows ∷ []
   pub not_of_cones : eliminated_by (codes "fan_dim") ≡ []
+
+-- which failures are with evidence, and which of a number out of the range
+pub record FailsAreRead : Type 0 where
+  pub memory : IfFailed fail.Memory ⊥
+  pub evidence : (e : Evidence) → ¬ (IfFailed (fail.Failed e) ⊥)
+  -- too many rays, facets, faces or cells are no number out of the range, nor is want of memory; a product is one
+  pub no_memory : IfOutOfRange fail.Memory ⊥
+  pub rays : IfOutOfRange (fail.Failed (E5Rays 0 [])) ⊥
+  pub facets : IfOutOfRange (fail.Failed (E5Rows [])) ⊥
+  pub faces : IfOutOfRange (fail.Failed (E5Faces [])) ⊥
+  pub cells : IfOutOfRange (fail.Failed (E5Cells 0 [])) ⊥
+  pub product : ¬ (IfOutOfRange (fail.Failed (E4 [] [])) ⊥)

@@ -1,3 +1,4 @@
 pub mod Starts
 pub mod Sound
 pub mod Examples
+pub mod Fails

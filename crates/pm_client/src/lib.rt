@@ -2,7 +2,7 @@
 //! nothing of rounds, commands and sessions.
 #![tactic(auto)]
 
-ghost use Rattle.pm_client.specs.Examples.{CellsAreRead, ConesAreRead, DoublesAreRead, LatticesAreRead, OptimaAreRead, ProgramsAreRead, RowListsAreRead, StartsAreRead, ThinningIsRead};
+ghost use Rattle.pm_client.specs.Examples.{CellsAreRead, ConesAreRead, DoublesAreRead, FailsAreRead, LatticesAreRead, OptimaAreRead, ProgramsAreRead, RowListsAreRead, StartsAreRead, ThinningIsRead};
 ghost use Rattle.pm_client.specs.Sound.{FailsRightly, IsSound};
 ghost use Rattle.pm_client.specs.Starts.{started_once};
 ghost use Rattle.std.specs.Prelude.{IfErr, OnOk, [], ℕ, ◌≡◌};
@@ -209,4 +209,9 @@ pub fn example_lattices()
 /// The definitions of too many cells read on views without rows.
 pub fn example_cells()
     ensures { CellsAreRead }
+{}
+
+/// Which failures are with evidence, and which with evidence of a number out of the range.
+pub fn example_fails()
+    ensures { FailsAreRead }
 {}

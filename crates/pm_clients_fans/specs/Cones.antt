@@ -2,7 +2,7 @@
 use Rattle.std.specs.Prelude.{◌≡◌, Bool, Some, List, false, length, true}
 use Rattle.pm_vector.specs.Rows.{Row}
 use Rattle.pm_client.specs.Sound.{AreRowsOf}
-use Rattle.pm_fan.specs.Dimensions.{NoConeEvidence}
+use Rattle.pm_fan.specs.Dimensions.{IsLostCone, NoConeEvidence}
 use Rattle.pm_object.specs.Reading.{ViewSeen, fact_of}
 use Rattle.pm_props.specs.declared.property.PropId.TheVariants.{LinealitySpace, MaximalCones, Vertices}
 use Rattle.pm_types.specs.Values.{IndexSets, sets}
@@ -25,3 +25,11 @@ pub record ConesStay (v : ViewSeen) : Type 0 where
 abbrev pub ConesStayBy : Bool → ViewSeen → Type 0
 ConesStayBy false v = ConesStay v
 ConesStayBy true v = Unit {0}
+
+-- the elimination of the rows of a maximal cone is lost by wide numbers too
+pub record ReadsLostCone (v : ViewSeen) : Type 0 where
+  pub V : List Row
+  pub L : List Row
+  pub index : IndexSets
+  pub read : ReadsCones v V L index
+  pub lost : IsLostCone v.cols V L index.rows

@@ -1,10 +1,22 @@
--- What numbers and sets show.
+-- What numbers and sets show, and which maximal cones of a view are lost by wide numbers.
+use Rattle.pm_client.specs.Examples.{named}
+use Rattle.pm_client.specs.Sound.{EliminatesRows, FailsRightly}
+use Rattle.pm_client.specs.declared.ClientFail.TheVariants.{Failed}
+use Rattle.pm_clients_fans.specs.Cones.{ReadsLostCone}
 use Rattle.pm_clients_fans.specs.Numbers.{IsMost}
-use Rattle.pm_clients_fans.specs.Works.{FindsDims}
+use Rattle.pm_clients_fans.specs.Works.{FanFails, FindsDims}
+use Rattle.pm_clients_fans.specs.declared.client.FanWork.TheVariants as work
+use Rattle.pm_elim.specs.LostExamples.{odd_next, odd_row}
+use Rattle.pm_geom.specs.declared.evidence.Evidence.{Evidence}
+use Rattle.pm_object.specs.Reading.{ViewSeen}
+use Rattle.pm_object_type.specs.declared.object_type.ObjectType.TheVariants.{Fan}
+use Rattle.pm_props.specs.declared.property.PropId.TheVariants.{LinealitySpace, MaximalCones, Vertices}
 use Rattle.pm_relations.specs.Fans.{AreOne, AreSimplices}
 use Rattle.pm_standard.specs.Table.{standard_kind}
 use Rattle.pm_standard.specs.declared.standard.StandardClient.TheVariants as client
-use Rattle.std.specs.Prelude.{[], ◌∷◌}
+use Rattle.pm_types.specs.Values.{matrix, sets}
+use Rattle.pm_types.specs.Views.{ratios}
+use Rattle.std.specs.Prelude.{List, None, [], codes, map, ℕ, ◌∷◌}
 use lib.IntN.{pos, negsuc}
 
 pub record NumbersAreRead : Type 0 where
@@ -27,3 +39,27 @@ pub record NumbersAreRead : Type 0 where
   pub finds_dims : FindsDims (standard_kind client.FanDims)
   pub finds_dims_wide : FindsDims (standard_kind client.FanDimsWide)
   pub finds_no_dims : ¬ (FindsDims (standard_kind client.FanDim))
+
+-- a view of a fan with 3 columns, whose RAYS are (2, 1, -1) and (1, 1, 2^126), whose LINEALITY_SPACE has no row, and
+-- whose MAXIMAL_CONES are these
+abbrev pub with_cones : List (List ℕ) → ViewSeen
+with_cones cones = record {
+  of = Fan;
+  cols = 3;
+  kind = named (codes "fan_dims_wide") 1 2;
+  sub = None;
+  facts = record { place = None; property = LinealitySpace; value = matrix 0 [] }
+      ∷ record { place = None; property = Vertices; value = matrix 3 (map ratios (odd_row ∷ odd_next ∷ [])) }
+      ∷ record { place = None; property = MaximalCones; value = sets cones 2 }
+      ∷ [];
+}
+
+pub record LostMaximalConesAreRead : Type 0 where
+  -- a cone with both rays is lost; not where no cone has both
+  pub lost : ReadsLostCone (with_cones ((0 ∷ 1 ∷ []) ∷ []))
+  pub not_lost : ¬ (ReadsLostCone (with_cones ((0 ∷ []) ∷ (1 ∷ []) ∷ [])))
+  -- right evidence is how the wide client fails where a cone is lost, and not elsewhere
+  pub fails : (e : Evidence) → FailsRightly (with_cones ((0 ∷ 1 ∷ []) ∷ [])) (Failed e) → EliminatesRows (Failed e)
+      → FanFails work.FanDimsWide (with_cones ((0 ∷ 1 ∷ []) ∷ [])) (Failed e)
+  pub not_fails : (e : Evidence)
+      → ¬ (FanFails work.FanDimsWide (with_cones ((0 ∷ []) ∷ (1 ∷ []) ∷ [])) (Failed e))

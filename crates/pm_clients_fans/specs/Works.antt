@@ -1,8 +1,9 @@
 -- The works of the clients of fans.
+use Rattle.pm_client.specs.Fails.{IfFailed}
 use Rattle.pm_client.specs.Sound.{EliminatesRows, FailsRightly, cone_rows, eliminated_by}
 use Rattle.pm_client.specs.declared.ClientFail.{ClientFail}
 use Rattle.pm_client.specs.declared.ClientFail.TheVariants.{Memory}
-use Rattle.pm_clients_fans.specs.Cones.{ConesStay}
+use Rattle.pm_clients_fans.specs.Cones.{ConesStay, ReadsLostCone}
 use Rattle.pm_clients_fans.specs.declared.client.FanWork.{FanWork}
 use Rattle.pm_clients_fans.specs.declared.client.FanWork.TheVariants as work
 use Rattle.pm_object.specs.Reading.{ViewSeen}
@@ -33,9 +34,10 @@ abbrev pub FanStays : FanWork → ViewSeen → Type 0
 FanStays work.FanDims v = ConesStay v
 FanStays w v = Unit {0}
 
--- both fail for want of memory or with evidence that holds of the view, of the rows of a cone as they stand, the
--- others for want of memory alone
+-- both fail for want of memory or with evidence that holds of the view, of the rows of a cone as they stand, the wide
+-- one with evidence only where the elimination of the rows of a cone is lost by wide numbers too; the others for want
+-- of memory alone
 abbrev pub FanFails : FanWork → ViewSeen → ClientFail → Type 0
 FanFails work.FanDims v e = FailsRightly v e × EliminatesRows e
-FanFails work.FanDimsWide v e = FailsRightly v e × EliminatesRows e
+FanFails work.FanDimsWide v e = FailsRightly v e × EliminatesRows e × IfFailed e (ReadsLostCone v)
 FanFails w v e = e ≡ Memory

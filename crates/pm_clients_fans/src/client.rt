@@ -7,7 +7,7 @@ ghost use Rattle.pm_clients_fans.specs.Works.{FanFails, FindsDims};
 ghost use Rattle.pm_clients_fans.specs.declared.client.FanWork.TheVariants as work;
 ghost use Rattle.pm_standard.specs.Table.{standard_kind};
 ghost use Rattle.pm_standard.specs.declared.standard.StandardClient.TheVariants as client;
-ghost use Rattle.std.specs.Prelude.{IfErr, OnOk, [], ◌≡◌, map, ◌∷◌};
+ghost use Rattle.std.specs.Prelude.{IfErr, OnOk, [], ◌≡◌, map, ◌∷◌, true};
 
 use crate::dims::{are_one, are_simplices, dims_of, greatest};
 use pm_client::{ClientFail, counts_of, matrix_of, primitive_rows, put_value, sets_of, whole_of};
@@ -58,7 +58,8 @@ impl FanWork {
 pub struct FanFamily;
 
 /// A client of fans. `fan_dims` fails exactly where a step of the elimination of the rows of a maximal cone leaves the
-/// range, and the wide one only there; the others for want of memory alone.
+/// range, and the wide one only where besides the elimination of the rows of a maximal cone is lost by wide numbers;
+/// the others for want of memory alone.
 pub type FanClient = FamilyClient<FanFamily>;
 
 impl Family for FanFamily {
@@ -100,7 +101,8 @@ impl Family for FanFamily {
     }
 }
 
-// MAXIMAL_CONES_DIMS: the rank of LINEALITY_SPACE with the rays of each of MAXIMAL_CONES.
+// MAXIMAL_CONES_DIMS: the rank of LINEALITY_SPACE with the rays of each of MAXIMAL_CONES; with the word, by wide numbers
+// where those of the range do not suffice.
 fn fan_dims(alloc: Global, view: &View, draft: &mut Draft, wide: bool) -> Result<(), ClientFail>
     requires kind { FindsDims view.now.kind }
     requires empty { draft.old ≡ record { kind = view.now.kind; values = [] } }
@@ -108,6 +110,7 @@ fn fan_dims(alloc: Global, view: &View, draft: &mut Draft, wide: bool) -> Result
     ensures sound { OnOk result (IsSound view.now draft.new) }
     ensures failed { IfErr result (FailsRightly view.now) }
     ensures fails { IfErr result (FanFails work.FanDims view.now) }
+    ensures lost { wide ≡ true → IfErr result (FanFails work.FanDimsWide view.now) }
     ensures stays { OnOk result (ConesStayBy wide view.now) }
 {
     prove!(view.of() == ObjectType::Fan);

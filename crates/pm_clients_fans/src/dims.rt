@@ -4,12 +4,12 @@ ghost use Rattle.pm_vector.specs.Rows.{HasCols};
 ghost use Rattle.pm_clients_fans.specs.Numbers.{IsMost};
 ghost use Rattle.pm_elim.specs.Evidence.{IfWide};
 ghost use Rattle.pm_elim.specs.declared.evidence.ElimList.TheVariants as list;
-ghost use Rattle.pm_fan.specs.Dimensions.{AreDimensions, IsConeEvidence, NoConeEvidence};
+ghost use Rattle.pm_fan.specs.Dimensions.{AreDimensions, IsConeEvidence, IsLostCone, NoConeEvidence};
 ghost use Rattle.pm_relations.specs.Fans.{AreOne, AreSimplices};
 ghost use Rattle.pm_types.specs.Forms.{is_counts_form, is_sets_form};
 ghost use Rattle.std.specs.List.{All};
 ghost use Rattle.std.specs.Option.{option_copied, unwrap_or};
-ghost use Rattle.std.specs.Prelude.{IfErr, IfOk, IsTrue, OnOk, false, length, map, ◌+◌, ◌<◌, ◌^◌, ◌≡◌, ◌≤◌, ◌↔◌, pos};
+ghost use Rattle.std.specs.Prelude.{IfErr, IfOk, IsTrue, OnOk, false, length, map, ◌+◌, ◌<◌, ◌^◌, ◌≡◌, ◌≤◌, ◌↔◌, pos, true};
 ghost use lib.IntN.{negsuc, ◌+ℤ◌};
 ghost use Rattle.pm_limits.specs.Limits.{most_columns, most_rows};
 
@@ -41,6 +41,8 @@ pub(crate) fn dims_of(
         → NoConeEvidence cols rays.now lines.now cones.now.rows) }
     ensures wide { IfErr result (λ f. IfWide f (IsConeEvidence cols rays.now lines.now cones.now.rows)) }
     ensures list { IfErr result (λ f. IfWide f (λ e. e.list ≡ list.Rows)) }
+    ensures lost { wide ≡ true → IfErr result (λ f.
+        IfWide f (λ _. IsLostCone cols rays.now lines.now cones.now.rows)) }
 {
     if cones.cols() as usize != rays.len() {
         return Ok(Vec::new(alloc));

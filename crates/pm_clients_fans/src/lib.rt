@@ -2,7 +2,7 @@
 //! sessions.
 #![tactic(auto)]
 
-ghost use Rattle.pm_clients_fans.specs.Examples.{NumbersAreRead};
+ghost use Rattle.pm_clients_fans.specs.Examples.{LostMaximalConesAreRead, NumbersAreRead};
 
 mod client;
 mod dims;
@@ -12,4 +12,9 @@ pub use client::{FanClient, FanWork};
 /// What some numbers and sets show.
 pub fn example_numbers()
     ensures { NumbersAreRead }
+{}
+
+/// Views of which a maximal cone is lost by wide numbers, and views of which none is; how the wide client fails.
+pub fn example_lost_maximal_cones()
+    ensures { LostMaximalConesAreRead }
 {}

@@ -186,9 +186,6 @@ hulls_are_read = record {
   lost = λ h. let e = ap length (h.kept (record { rays = one_ray; lines = no_lines })).0 in omega arith;
   put = record { rays = single 1 ∷ []; lines = []; rows = ratios (single 1) ∷ []; possible = kept; each = (one_put, tt); in_range = All-nil (All InRange); draft = refl };
   not_put = λ h. no_draft h.draft;
-  wide_rows = λ h. h;
-  crowded = tt;
-  memory = tt;
 }
 
 pub thinned_are_read : ThinnedAreRead

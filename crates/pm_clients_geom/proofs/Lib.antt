@@ -1,5 +1,4 @@
 pub mod RowLists
-pub mod FailedLost
 pub mod FoundDims
 pub mod Halves
 pub mod NullMatrices
@@ -8,6 +7,7 @@ pub mod Examples
 pub mod PutRays
 pub mod FoundHulls
 pub mod LostParts
+pub mod LostThinning
 pub mod FoundPlaced
 pub mod FoundThinned
 pub mod FailingThinned
@@ -15,3 +15,5 @@ pub mod PointLaws
 pub mod RightRows
 mod RedundancyExamples
 mod LostListExamples
+mod LostPartsExamples
+mod LostThinnedExamples

@@ -2,7 +2,7 @@
 use Rattle.pm_vector.proofs.DivisorLaws.{IsPrimitive-from_one}
 use Rattle.pm_vector.proofs.Ring.{ring}
 use Rattle.pm_vector.proofs.RowLaws.{entry-times}
-use Rattle.pm_vector.specs.Divisors.{IsPrimitive}
+use Rattle.pm_vector.specs.Divisors.{IsPrimitive, IsPrimitiveOf}
 use Rattle.pm_vector.specs.Numbers.{Ratio}
 use Rattle.pm_vector.specs.Rows.{Row, Stands, entry, ratio_at}
 use Rattle.pm_client.specs.Sound.{IsListOf}
@@ -22,7 +22,7 @@ use Rattle.std.proofs.lemmas.List.{length-append}
 use Rattle.std.proofs.lemmas.Nat.Gcd.{dvd_trans}
 use Rattle.std.specs.List.{slice_index_or}
 use Rattle.std.specs.Prelude.{List, Some, [], length, map, suc, unsigned_abs, zero, ℕ, ◌+◌, ◌<◌, ◌∷◌, ◌≡◌}
-use lib.IntN.{pos, ℤ, ◌*ℤ◌}
+use lib.IntN.{pos, ◌*ℤ◌}
 use lib.Signed.{lt_z_yes}
 
 -- ---- a primitive whole row is that of its fractions over 1
@@ -30,7 +30,7 @@ module _ (x : Row) where
   denominator_one : (i : ℕ) → (ratio_at (ratios x) i).den ≡ pos 1
   denominator_one i = ap (λ (r : Ratio). r.den) (ratio_at_ratios x i)
 
-  least_one : IsLeastDenominator (ratios x) (length (ratios x)) 1
+  pub least_one : IsLeastDenominator (ratios x) (length (ratios x)) 1
   least_one = record {
     multiples = λ c. (
       λ d i l. rw denominator_one (one-dvd c),
@@ -38,22 +38,21 @@ module _ (x : Row) where
     );
   }
 
-numerators_whole : (x : Row) → numerators_over 1 (ratios x) ≡ x
+pub numerators_whole : (x : Row) → numerators_over 1 (ratios x) ≡ x
 numerators_whole [] = refl
 numerators_whole (k ∷ x) = let h = numerators_whole x in let e : k *ℤ pos 1 ≡ k = simp ring in cc
 
 module _ (x : Row) (primitive : IsPrimitive x) where
-  primitive_whole : IsPrimitiveRowOf (ratios x) x
-  primitive_whole = record {
-    denominator = 1;
-    least = least_one x;
-    primitive = rw numerators_whole (record {
-      cols = refl;
-      divided = inr (pos 1, lt_z_yes tt, record { at = λ i. simp (entry-times, ring) }, primitive);
-    });
+  pub primitive_of_itself : IsPrimitiveOf x x
+  primitive_of_itself = record {
+    cols = refl;
+    divided = inr (pos 1, lt_z_yes tt, record { at = λ i. simp (entry-times, ring) }, primitive);
   }
 
-  stands_whole : Stands (ratios x) x
+  pub primitive_whole : IsPrimitiveRowOf (ratios x) x
+  primitive_whole = record { denominator = 1; least = least_one x; primitive = rw numerators_whole primitive_of_itself }
+
+  pub stands_whole : Stands (ratios x) x
   stands_whole = record {
     p = pos 1;
     q = pos 1;
@@ -64,7 +63,7 @@ module _ (x : Row) (primitive : IsPrimitive x) where
     same = λ i l. rw ratio_at_ratios (simp ring);
   }
 
-two_whole : (x y : Row) → IsPrimitive x → IsPrimitive y → ArePrimitiveRowsOf (map ratios (x ∷ y ∷ [])) (x ∷ y ∷ [])
+pub two_whole : (x y : Row) → IsPrimitive x → IsPrimitive y → ArePrimitiveRowsOf (map ratios (x ∷ y ∷ [])) (x ∷ y ∷ [])
 two_whole x y p q = record { count = refl; each = each; multiple = multiple }
   where
     each : (i : ℕ) → i < 2 → IsPrimitiveRowOf (slice_index_or (map ratios (x ∷ y ∷ [])) i []) (slice_index_or (x ∷ y ∷ []) i [])
@@ -77,7 +76,7 @@ two_whole x y p q = record { count = refl; each = each; multiple = multiple }
     multiple (suc zero) l = stands_whole y q
     multiple (suc (suc i)) l = absurd (omega arith)
 
-none_whole : ArePrimitiveRowsOf [] []
+pub none_whole : ArePrimitiveRowsOf [] []
 none_whole = record { count = refl; each = λ i l. absurd (omega arith); multiple = λ i l. absurd (omega arith) }
 
 list_of_two : (n : ℕ) (x y : Row) → IsPrimitive x → IsPrimitive y
@@ -96,7 +95,7 @@ list_of_two n x y p q = record {
   listed = refl;
 }
 
-by_one : (x : Row) (i : ℕ) → unsigned_abs (entry x i) ≡ 1 → IsPrimitive x
+pub by_one : (x : Row) (i : ℕ) → unsigned_abs (entry x i) ≡ 1 → IsPrimitive x
 by_one x i e = IsPrimitive-from_one x (record { divides = λ d. (λ h j. dvd_trans d h (one-dvd (unsigned_abs (entry x j))), λ f. rw e at (f i)) })
 
 dimension_lost : IsLostList (with_rays 3 (odd_row ∷ odd_next ∷ [])) LinealitySpace Vertices
@@ -114,7 +113,7 @@ hull_lost = record {
 }
 
 -- ---- a list of one row
-same_rows : (m n : ℕ) (X Y : List (List Ratio)) → Some (matrix m X) ≡ Some (matrix n Y) → X ≡ Y
+pub same_rows : (m n : ℕ) (X Y : List (List Ratio)) → Some (matrix m X) ≡ Some (matrix n Y) → X ≡ Y
 same_rows m n X Y e = cc
 
 one_listed : (x : Row) (X : List Row) → IsListOf (with_rays 3 (x ∷ [])) LinealitySpace Vertices X → length X ≡ 1
@@ -125,7 +124,7 @@ one_listed x X h =
     let second : length h.ys ≡ 1 = h.second_primitive.count ∙ ap length one in
     ap length h.listed ∙ (simp length-append (omega arith))
 
-one_stays : (n : ℕ) (X : List Row) → length X ≡ 1 → IsLost n X → ⊥
+pub one_stays : (n : ℕ) (X : List Row) → length X ≡ 1 → IsLost n X → ⊥
 one_stays n [] e h = omega arith
 one_stays n (x ∷ []) e h = lost_eliminations_are_read.not_one n x h
 one_stays n (x ∷ y ∷ X) e h = omega arith
@@ -143,8 +142,6 @@ lost_lists_are_read = record {
   not_lost = not_lost;
   extended = hull_lost;
   not_extended = not_extended;
-  memory = tt;
-  evidence = λ e h. h;
   dimension_fails = λ e right. (right, dimension_lost);
   not_dimension_fails = λ e h. not_lost h.1;
   hull_fails = λ e right listed. (right, listed, hull_lost);

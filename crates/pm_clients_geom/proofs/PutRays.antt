@@ -23,7 +23,7 @@ use Rattle.std.proofs.Common.{ap, arith, false, get_or, inl, inr, map, refl, sub
 use Rattle.std.proofs.lemmas.Int.{ints}
 use Rattle.std.proofs.lemmas.List.Elements.{All-cons, All-from_recursion, All-nil}
 use Rattle.std.specs.List.{All}
-use Rattle.std.specs.Prelude.{Bool, List, [], length, ℕ, ◌+◌, ◌++◌, ◌<◌, ◌∷◌, ◌≡◌, ◌≤◌, ◌⊎◌}
+use Rattle.std.specs.Prelude.{Bool, List, [], length, ℕ, ◌+◌, ◌++◌, ◌<◌, ◌∷◌, ◌≡◌, ◌⊎◌}
 use lib.IntN.{negsuc, pos, ℤ}
 use lib.Signed.{◌<ℤ◌, ◌≤ℤ◌}
 

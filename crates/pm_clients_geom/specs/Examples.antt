@@ -3,9 +3,7 @@ use Rattle.pm_types.specs.Parts.{as_put}
 use Rattle.pm_vector.specs.Numbers.{Ratio}
 use Rattle.pm_vector.specs.Rows.{Row}
 use Rattle.pm_client.specs.Examples.{no_rows, single}
-use Rattle.pm_client.specs.declared.ClientFail.TheVariants.{Failed, Memory}
-use Rattle.pm_geom.specs.declared.evidence.Evidence.TheVariants.{E4, E5Rays}
-use Rattle.pm_clients_geom.specs.Hulls.{AreFewRows, ArePossible, ArePutGenerators, FindsFacets, FindsRays, IfOutOfRange, MayGenerate, cut_type}
+use Rattle.pm_clients_geom.specs.Hulls.{AreFewRows, ArePossible, ArePutGenerators, FindsFacets, FindsRays, MayGenerate, cut_type}
 use Rattle.pm_clients_geom.specs.Lists.{ReadsParts}
 use Rattle.pm_clients_geom.specs.Thinned.{ArePossibleFacets, ArePossibleRays, ArePutFacets, FindsFacetsOfSets, FindsRaysOfSets, ThinsInequalities, ThinsPoints}
 use Rattle.pm_clients_geom.specs.Ranks.{FindsNullSpace}
@@ -98,10 +96,6 @@ pub record HullsAreRead : Type 0 where
       (drafted (record { property = Vertices; value = matrix 1 (ratios (single 1) ∷ []) }
       ∷ record { property = LinealitySpace; value = matrix 0 [] } ∷ []))
   pub not_put : ¬ (ArePutGenerators no_rows (single 1 ∷ []) [] (drafted []))
-  -- which failures say that a number is out of the range
-  pub wide_rows : ¬ (IfOutOfRange (Failed (E4 [] [])) ⊥)
-  pub crowded : IfOutOfRange (Failed (E5Rays 0 [])) ⊥
-  pub memory : IfOutOfRange Memory ⊥
 
 pub record ThinnedAreRead : Type 0 where
   -- which clients thin one description by the other, and which find one from sets

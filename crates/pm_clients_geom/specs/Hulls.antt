@@ -1,13 +1,12 @@
 -- What the clients of double description are for, and what they put.
 use Rattle.pm_vector.specs.Numbers.{InRange, Ratio}
 use Rattle.pm_vector.specs.Rows.{HasCols, Row}
+use Rattle.pm_client.specs.Fails.{IfOutOfRange}
 use Rattle.pm_client.specs.Sound.{AreParts, FailsRightly, are_parts, has_way, doubling, eliminated_by, first_part, double_list, enlarging_rows}
 use Rattle.pm_client.specs.declared.ClientFail.{ClientFail}
-use Rattle.pm_client.specs.declared.ClientFail.TheVariants.{Failed, Memory}
 use Rattle.pm_clients_geom.specs.declared.hulls.HullWork.{HullWork}
 use Rattle.pm_clients_geom.specs.declared.hulls.HullWork.TheVariants as hull
 use Rattle.pm_dd.specs.Lost.{PartsAreLost}
-use Rattle.pm_geom.specs.declared.evidence.Evidence.TheVariants.{E5Rays}
 use Rattle.pm_clients_geom.specs.Matrices.{AreRays, MayBeLines}
 use Rattle.pm_types.specs.Parts.{cols_over}
 use Rattle.pm_clients_geom.specs.Rays.{ArePutRays}
@@ -85,18 +84,12 @@ pub record ArePutGenerators (v : ViewSeen) (V' K' : List Row) (new : DraftSeen) 
         ∷ [];
   }
 
--- the two parts that a client of double description reads are lost by wide numbers
+-- double description of the two parts that a client reads is lost by wide numbers
 pub record ReadsLostParts (v : ViewSeen) : Type 0 where
   pub lines : List Row
   pub others : List Row
   pub read : AreParts v lines others
   pub lost : PartsAreLost v.cols lines others
-
--- Q holds where a client fails, but for want of memory and for too many rays
-abbrev pub IfOutOfRange : ClientFail → Type 0 → Type 0
-IfOutOfRange Memory Q = Unit {0}
-IfOutOfRange (Failed (E5Rays front rays)) Q = Unit {0}
-IfOutOfRange (Failed e) Q = Q
 
 -- a client of double description fails for want of memory, or with evidence that holds of the view; a wide one with
 -- evidence of a number out of the range only where what it reads is lost by wide numbers too

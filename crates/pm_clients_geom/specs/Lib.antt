@@ -14,3 +14,5 @@ pub mod Laws
 pub mod Examples
 pub mod RedundancyExamples
 pub mod LostListExamples
+pub mod LostPartsExamples
+pub mod LostThinnedExamples

@@ -2,9 +2,9 @@
 use Rattle.pm_vector.specs.Rows.{Row}
 use Rattle.pm_client.specs.Examples.{named}
 use Rattle.pm_client.specs.Sound.{EliminatesExtended, FailsRightly}
-use Rattle.pm_client.specs.declared.ClientFail.TheVariants.{Failed, Memory}
+use Rattle.pm_client.specs.declared.ClientFail.TheVariants.{Failed}
 use Rattle.pm_clients_geom.specs.Lists.{IsLostExtendedList, IsLostList}
-use Rattle.pm_clients_geom.specs.Stays.{DimFails, IfFailed, RowsFail}
+use Rattle.pm_clients_geom.specs.Stays.{DimFails, RowsFail}
 use Rattle.pm_clients_geom.specs.declared.dims.DimWork.TheVariants as dimension
 use Rattle.pm_clients_geom.specs.declared.rows.RowsWork.TheVariants as rows
 use Rattle.pm_elim.specs.LostExamples.{odd_next, odd_row, one_entry, two_rows}
@@ -37,9 +37,6 @@ pub record LostListsAreRead : Type 0 where
   pub extended : IsLostExtendedList (with_rays 2 two_rows) LinealitySpace Vertices
   -- that of rows of one entry has one row
   pub not_extended : ¬ (IsLostExtendedList (with_rays 1 one_entry) LinealitySpace Vertices)
-  -- want of memory says nothing
-  pub memory : IfFailed Memory ⊥
-  pub evidence : (e : Evidence) → ¬ (IfFailed (Failed e) ⊥)
   -- right evidence is how the wide clients fail where their list is lost, and not elsewhere
   pub dimension_fails : (e : Evidence) → FailsRightly (with_rays 3 (odd_row ∷ odd_next ∷ [])) (Failed e)
       → DimFails dimension.ConeDimVWide (with_rays 3 (odd_row ∷ odd_next ∷ [])) (Failed e)

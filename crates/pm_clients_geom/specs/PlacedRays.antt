@@ -1,11 +1,15 @@
 -- What the clients that place rays are for, what they find, and how they fail.
+use Rattle.pm_client.specs.Fails.{IfOutOfRange}
 use Rattle.pm_vector.specs.Rows.{Row}
 use Rattle.pm_beneath.specs.declared.fails.PlaceFail.{PlaceFail}
 use Rattle.pm_beneath.specs.declared.fails.PlaceFail.TheVariants as place
-use Rattle.pm_client.specs.Sound.{are_parts, cell_count, double_list, doubling, eliminated_by, enlarging_rows, first_part, has_way}
+use Rattle.pm_client.specs.Sound.{FailsRightly, are_parts, cell_count, double_list, doubling, eliminated_by, enlarging_rows, first_part, has_way}
 use Rattle.pm_client.specs.declared.ClientFail.{ClientFail}
 use Rattle.pm_client.specs.declared.ClientFail.TheVariants.{Failed, Memory}
+use Rattle.pm_clients_geom.specs.Hulls.{ReadsLostParts}
 use Rattle.pm_clients_geom.specs.Lists.{ReadsParts}
+use Rattle.pm_clients_geom.specs.declared.placing.PlaceWork.{PlaceWork}
+use Rattle.pm_clients_geom.specs.declared.placing.PlaceWork.TheVariants as work
 use Rattle.pm_geom.specs.Graphs.{IsAscending}
 use Rattle.pm_geom.specs.Triangulations.{IsTriangulation}
 use Rattle.pm_dd.specs.Hulls.{AreFacets}
@@ -47,3 +51,11 @@ abbrev pub fail_of_place : PlaceFail → ClientFail
 fail_of_place (place.Wide e) = Failed e
 fail_of_place (place.Many e) = Failed e
 fail_of_place place.Memory = Memory
+
+-- a client that places rays fails for want of memory, or with evidence that holds of the view; a wide one with evidence
+-- of a number out of the range only where what it reads is lost by wide numbers too
+abbrev pub PlaceFails : PlaceWork → ViewSeen → ClientFail → Type 0
+PlaceFails work.BbFacetsWide v e = FailsRightly v e × IfOutOfRange e (ReadsLostParts v)
+PlaceFails work.BbFacetsVWide v e = FailsRightly v e × IfOutOfRange e (ReadsLostParts v)
+PlaceFails work.PlacingWide v e = FailsRightly v e × IfOutOfRange e (ReadsLostParts v)
+PlaceFails w v e = FailsRightly v e

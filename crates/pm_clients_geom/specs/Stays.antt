@@ -1,7 +1,8 @@
 -- Where a client answers, and how it fails otherwise.
+use Rattle.pm_client.specs.Fails.{IfFailed}
 use Rattle.pm_client.specs.Sound.{EliminatesExtended, EliminatesRows, FailsRightly, ReadsMatrix}
 use Rattle.pm_client.specs.declared.ClientFail.{ClientFail}
-use Rattle.pm_client.specs.declared.ClientFail.TheVariants.{Failed, Memory}
+use Rattle.pm_client.specs.declared.ClientFail.TheVariants.{Memory}
 use Rattle.pm_vector.specs.Numbers.{Ratio}
 use Rattle.pm_clients_geom.specs.Lists.{IsLostExtendedList, IsLostList, StaysInRange}
 use Rattle.pm_types.specs.Parts.{cols_over}
@@ -22,11 +23,6 @@ abbrev pub DimStays : DimWork → ViewSeen → Type 0
 DimStays dimension.ConeDimV v = StaysInRange v LinealitySpace Vertices list.Rows
 DimStays dimension.ConeDimPoints v = StaysInRange v InputLineality Points list.Rows
 DimStays w v = Unit {0}
-
--- Q holds where a client fails with evidence, and not for want of memory
-abbrev pub IfFailed : ClientFail → Type 0 → Type 0
-IfFailed Memory Q = Unit {0}
-IfFailed (Failed e) Q = Q
 
 -- such a client that eliminates rows fails for want of memory or with evidence that holds of the view, of its rows as
 -- they stand, and a wide one with evidence only where the elimination is lost by wide numbers too; another for want of

@@ -1,10 +1,10 @@
 // The clients that find dimensions.
 
+ghost use Rattle.pm_client.specs.Fails.{IfFailed};
 ghost use Rattle.pm_client.specs.Sound.{EliminatesRows, FailsRightly, IsSound, added_rows, are_parts, eliminated_by, row_list as whole_list};
 ghost use Rattle.pm_client.specs.declared.ClientFail.TheVariants.{Memory};
 ghost use Rattle.pm_clients_geom.specs.Lists.{IsLostList, StaysInRange};
 ghost use Rattle.pm_clients_geom.specs.Ranks.{IsListRank};
-ghost use Rattle.pm_clients_geom.specs.Stays.{IfFailed};
 ghost use Rattle.pm_elim.specs.declared.evidence.ElimList.TheVariants as list;
 ghost use Rattle.pm_object.specs.Reading.{IsView};
 ghost use Rattle.pm_standard.specs.Table.{standard_kind};

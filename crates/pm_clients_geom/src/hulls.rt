@@ -1,8 +1,9 @@
 // The clients of double description: one description of a thing from the other.
 
+ghost use Rattle.pm_client.specs.Fails.{IfOutOfRange};
 ghost use Rattle.pm_client.specs.Sound.{FailsRightly, IsSound, are_parts};
 ghost use Rattle.pm_client.specs.declared.ClientFail.TheVariants.{Memory};
-ghost use Rattle.pm_clients_geom.specs.Hulls.{AreFewRows, ArePossible, ArePutGenerators, FindsFacets, FindsRays, IfOutOfRange, ReadsLostParts, cut_type};
+ghost use Rattle.pm_clients_geom.specs.Hulls.{AreFewRows, ArePossible, ArePutGenerators, FindsFacets, FindsRays, ReadsLostParts, cut_type};
 ghost use Rattle.pm_clients_geom.specs.Lists.{ReadsParts};
 ghost use Rattle.pm_props.specs.Sets.{has, set_of};
 ghost use Rattle.pm_props.specs.declared.property.PropId.TheVariants as property;

@@ -5,6 +5,8 @@
 
 ghost use Rattle.pm_clients_geom.specs.Laws.{FacetsAreThinned, FeasibleHasPoint, VerticesAreThinned};
 ghost use Rattle.pm_clients_geom.specs.LostListExamples.{LostListsAreRead};
+ghost use Rattle.pm_clients_geom.specs.LostPartsExamples.{LostPartsAreRead};
+ghost use Rattle.pm_clients_geom.specs.LostThinnedExamples.{LostThinnedAreRead};
 ghost use Rattle.pm_clients_geom.specs.RedundancyExamples.{FailsAreRead, PointsAreRead};
 ghost use Rattle.pm_clients_geom.specs.Examples.{HullsAreRead, MatricesAreRead, RaysAreRead, ThinnedAreRead};
 
@@ -74,4 +76,15 @@ pub fn example_points()
 /// Rays of a cone whose list is lost by wide numbers, or its extended list, and how the wide clients fail on it.
 pub fn example_lost_lists()
     ensures { LostListsAreRead }
+{}
+
+/// Rays of a cone that are lost by wide numbers, and how the wide clients that place them fail.
+pub fn example_lost_parts()
+    ensures { LostPartsAreRead }
+{}
+
+/// Points and inequalities whose thinning is lost by wide numbers, sets of rows whose null space is, and how the wide
+/// clients fail on them.
+pub fn example_lost_thinned()
+    ensures { LostThinnedAreRead }
 {}

@@ -1,12 +1,14 @@
 // The clients that place rays: facets and the placing triangulation, by beneath-beyond.
 
+ghost use Rattle.pm_client.specs.Fails.{IfOutOfRange};
 ghost use Rattle.pm_client.specs.Sound.{FailsRightly, IsSound};
+ghost use Rattle.pm_clients_geom.specs.Hulls.{ReadsLostParts};
 ghost use Rattle.pm_clients_geom.specs.PlacedRays.{ArePlaced, PlacesRays, fail_of_place};
 ghost use Rattle.pm_object.specs.Reading.{IsView};
 ghost use Rattle.pm_props.specs.Sets.{set_of};
 ghost use Rattle.pm_props.specs.declared.property.PropId.TheVariants as property;
 ghost use Rattle.pm_standard.specs.declared.standard.StandardClient.TheVariants as client;
-ghost use Rattle.std.specs.Prelude.{IfErr, IfOk, OnOk, [], map, ◌∷◌, ◌≡◌};
+ghost use Rattle.std.specs.Prelude.{IfErr, IfOk, OnOk, [], map, true, ◌∷◌, ◌≡◌};
 
 use crate::hulls::{Parts, read_parts};
 use pm_beneath::{Facets, PlaceFail, place};
@@ -53,11 +55,12 @@ pub struct PlaceFamily;
 
 /// A client that places rays (De Loera, Rambau and Santos, Triangulations, section 4.3). It fails for want of memory,
 /// where a step leaves the range, and where a cone on the way has too many facets or cells. A wide one works a step
-/// that leaves the range by wide numbers, and where these do not suffice it fails as the standard one.
+/// that leaves the range by wide numbers, and only where these do not suffice either, or for want of memory or too many
+/// facets or cells, it fails as the standard one.
 pub type PlaceClient = FamilyClient<PlaceFamily>;
 
 impl Family for PlaceFamily {
-    ghost use Rattle.pm_client.specs.Sound.{FailsRightly};
+    ghost use Rattle.pm_clients_geom.specs.PlacedRays.{PlaceFails};
     ghost use Rattle.pm_clients_geom.specs.Works.{place_client};
 
     type Work = PlaceWork;
@@ -66,7 +69,7 @@ impl Family for PlaceFamily {
 
     ghost Stays = { λ _ _ _. Unit {0} };
 
-    ghost Fails = { λ _ v e. FailsRightly v e };
+    ghost Fails = { PlaceFails };
 
     fn client(work: PlaceWork) -> StandardClient {
         match work {
@@ -129,6 +132,8 @@ fn place_rows(
         p.facets.facets.items p.facets.hull.items p.cells) }
     ensures view { IfOk result (λ _. IsView view.now) }
     ensures failed { IfErr result (FailsRightly view.now) }
+    ensures lost { wide ≡ true → IfErr result (λ e. FailsRightly view.now e
+        × IfOutOfRange e (ReadsLostParts view.now)) }
 {
     let parts = read_parts(alloc, view, first, second)?;
     match place(alloc, view.cols(), &parts.second, &parts.first, wide) {
@@ -152,6 +157,8 @@ fn bb_facets(alloc: Global, view: &View, draft: &mut Draft, wide: bool) -> Resul
     ensures draft { draft.new.kind ≡ draft.old.kind }
     ensures sound { OnOk result (IsSound view.now draft.new) }
     ensures failed { IfErr result (FailsRightly view.now) }
+    ensures lost { wide ≡ true → IfErr result (λ e. FailsRightly view.now e
+        × IfOutOfRange e (ReadsLostParts view.now)) }
 {
     let placed = place_rows(alloc, view, PropId::InputLineality, PropId::Points, wide)?;
     let facets = matrix_over_one(alloc, &placed.facets.facets, view.cols())?;
@@ -170,6 +177,8 @@ fn bb_facets_v(alloc: Global, view: &View, draft: &mut Draft, wide: bool) -> Res
     ensures draft { draft.new.kind ≡ draft.old.kind }
     ensures sound { OnOk result (IsSound view.now draft.new) }
     ensures failed { IfErr result (FailsRightly view.now) }
+    ensures lost { wide ≡ true → IfErr result (λ e. FailsRightly view.now e
+        × IfOutOfRange e (ReadsLostParts view.now)) }
 {
     let placed = place_rows(alloc, view, PropId::LinealitySpace, PropId::Vertices, wide)?;
     let facets = matrix_over_one(alloc, &placed.facets.facets, view.cols())?;
@@ -192,6 +201,8 @@ fn placing(alloc: Global, view: &View, draft: &mut Draft, wide: bool) -> Result<
     ensures draft { draft.new.kind ≡ draft.old.kind }
     ensures sound { OnOk result (IsSound view.now draft.new) }
     ensures failed { IfErr result (FailsRightly view.now) }
+    ensures lost { wide ≡ true → IfErr result (λ e. FailsRightly view.now e
+        × IfOutOfRange e (ReadsLostParts view.now)) }
 {
     let placed = place_rows(alloc, view, PropId::LinealitySpace, PropId::Vertices, wide)?;
     put_value(

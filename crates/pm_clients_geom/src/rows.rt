@@ -1,5 +1,6 @@
 // The clients that find rows: null spaces, and one description of a thing from its twin.
 
+ghost use Rattle.pm_client.specs.Fails.{IfFailed};
 ghost use Rattle.pm_types.specs.Parts.{as_put};
 ghost use Rattle.pm_client.specs.Sound.{EliminatesExtended, FailsRightly, IsSound};
 ghost use Rattle.pm_client.specs.declared.ClientFail.TheVariants.{Memory};
@@ -7,7 +8,7 @@ ghost use Rattle.pm_clients_geom.specs.Lists.{IsLostExtendedList, StaysInRange};
 ghost use Rattle.pm_clients_geom.specs.Matrices.{MayBeLines};
 ghost use Rattle.pm_clients_geom.specs.Pairs.{LacksPair};
 ghost use Rattle.pm_clients_geom.specs.Ranks.{FindsNullSpace};
-ghost use Rattle.pm_clients_geom.specs.Stays.{IfFailed, RowsStay};
+ghost use Rattle.pm_clients_geom.specs.Stays.{RowsStay};
 ghost use Rattle.pm_clients_geom.specs.declared.rows.RowsWork.TheVariants as work;
 ghost use Rattle.pm_elim.specs.declared.evidence.ElimList.TheVariants as list;
 ghost use Rattle.pm_standard.specs.Table.{standard_kind};

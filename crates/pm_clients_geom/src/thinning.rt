@@ -1,13 +1,14 @@
 // The clients that thin one description of a thing by the other, and those that find one from sets of incidences.
 
+ghost use Rattle.pm_client.specs.Fails.{IfFailed, IfOutOfRange};
 ghost use Rattle.pm_client.specs.Sound.{FailsRightly, IsSound};
 ghost use Rattle.pm_client.specs.declared.ClientFail.TheVariants.{Memory};
 ghost use Rattle.pm_clients_geom.specs.Hulls.{AreFewRows};
-ghost use Rattle.pm_clients_geom.specs.Thinned.{ArePossibleFacets, ArePossibleRays, ArePutFacets, FindsFacetsOfSets, FindsRaysOfSets, ThinsInequalities, ThinsPoints};
+ghost use Rattle.pm_clients_geom.specs.Thinned.{ArePossibleFacets, ArePossibleRays, ArePutFacets, FindsFacetsOfSets, FindsRaysOfSets, ReadsLostRows, ReadsLostSets, ThinsInequalities, ThinsPoints};
 ghost use Rattle.pm_props.specs.Sets.{set_of};
 ghost use Rattle.pm_props.specs.declared.property.PropId.TheVariants as property;
 ghost use Rattle.pm_standard.specs.declared.standard.StandardClient.TheVariants as client;
-ghost use Rattle.std.specs.Prelude.{All, IfErr, OnOk, [], length, ◌<◌, ◌∷◌, ◌≡◌, map};
+ghost use Rattle.std.specs.Prelude.{All, IfErr, OnOk, [], length, true, ◌<◌, ◌∷◌, ◌≡◌, map};
 
 use crate::hulls::{put_generators, read_parts};
 use crate::rays::{are_not_zero, are_rays, matrix_of_rays};
@@ -71,12 +72,13 @@ impl ThinWork {
 pub struct ThinFamily;
 
 /// A client that thins or takes sets. It fails for want of memory, where a step of an elimination or a product leaves
-/// the range, and `thin_inequalities_v` where there are more than `MOST_ROWS` facets. A wide one works an elimination
-/// that leaves the range by wide numbers, and where these do not suffice it fails as the standard one.
+/// the range, and `thin_inequalities_v` where there are more than `MOST_ROWS` facets. A wide one goes on by wide
+/// numbers where a number leaves the range, and only where an elimination is lost by these too, or for want of memory
+/// or too many facets, it fails as the standard one.
 pub type ThinClient = FamilyClient<ThinFamily>;
 
 impl Family for ThinFamily {
-    ghost use Rattle.pm_client.specs.Sound.{FailsRightly};
+    ghost use Rattle.pm_clients_geom.specs.Thinned.{ThinFails};
     ghost use Rattle.pm_clients_geom.specs.Works.{thinning_client};
 
     type Work = ThinWork;
@@ -85,7 +87,7 @@ impl Family for ThinFamily {
 
     ghost Stays = { λ _ _ _. Unit {0} };
 
-    ghost Fails = { λ _ v e. FailsRightly v e };
+    ghost Fails = { ThinFails };
 
     fn client(work: ThinWork) -> StandardClient {
         match work {
@@ -131,6 +133,8 @@ fn thin_points_f(
     ensures draft { draft.new.kind ≡ draft.old.kind }
     ensures sound { OnOk result (IsSound view.now draft.new) }
     ensures failed { IfErr result (FailsRightly view.now) }
+    ensures lost { wide ≡ true → IfErr result (λ e.
+        IfFailed e (ReadsLostRows view.now property.InputLineality property.Points property.Facets)) }
 {
     let points = read_parts(alloc, view, PropId::InputLineality, PropId::Points)?;
     let halves = read_parts(alloc, view, PropId::AffineHull, PropId::Facets)?;
@@ -166,6 +170,8 @@ fn thin_inequalities_v(
     ensures draft { draft.new.kind ≡ draft.old.kind }
     ensures sound { OnOk result (IsSound view.now draft.new) }
     ensures failed { IfErr result (FailsRightly view.now) }
+    ensures lost { wide ≡ true → IfErr result (λ e.
+        IfOutOfRange e (ReadsLostRows view.now property.Equations property.Inequalities property.Vertices)) }
 {
     let halves = read_parts(alloc, view, PropId::Equations, PropId::Inequalities)?;
     let rays = read_parts(alloc, view, PropId::LinealitySpace, PropId::Vertices)?;
@@ -193,6 +199,8 @@ fn rays_of_sets(alloc: Global, view: &View, draft: &mut Draft, wide: bool) -> Re
     ensures draft { draft.new.kind ≡ draft.old.kind }
     ensures sound { OnOk result (IsSound view.now draft.new) }
     ensures failed { IfErr result (FailsRightly view.now) }
+    ensures lost { wide ≡ true → IfErr result (λ e.
+        IfFailed e (ReadsLostSets view.now property.AffineHull property.Facets)) }
 {
     let halves = read_parts(alloc, view, PropId::AffineHull, PropId::Facets)?;
     let facets = Facets {
@@ -219,6 +227,8 @@ fn facets_of_sets(
     ensures draft { draft.new.kind ≡ draft.old.kind }
     ensures sound { OnOk result (IsSound view.now draft.new) }
     ensures failed { IfErr result (FailsRightly view.now) }
+    ensures lost { wide ≡ true → IfErr result (λ e.
+        IfFailed e (ReadsLostSets view.now property.LinealitySpace property.Vertices)) }
 {
     let rays = read_parts(alloc, view, PropId::LinealitySpace, PropId::Vertices)?;
     let generators = Generators {

@@ -1,1 +1,3 @@
 pub mod FoundLifted
+pub mod LostSites
+pub mod LostExamples

@@ -1,3 +1,4 @@
-pub mod Works
 pub mod LiftedSites
+pub mod Works
 pub mod Laws
+pub mod LostExamples

@@ -3,6 +3,7 @@ use Rattle.pm_client.specs.Sound.{AreRowsOf, ReadsHeights, has_way, lifting, rai
 use Rattle.pm_client.specs.declared.ClientFail.{ClientFail}
 use Rattle.pm_client.specs.declared.ClientFail.TheVariants.{Failed, Memory}
 use Rattle.pm_geom.specs.Cells.{AreCells, squares}
+use Rattle.pm_lift.specs.Lost.{LiftingIsLost, RaisingIsLost}
 use Rattle.pm_lift.specs.declared.fails.LiftFail.{LiftFail}
 use Rattle.pm_lift.specs.declared.fails.LiftFail.TheVariants as lift
 use Rattle.pm_matrix.specs.Matrices.{IsFraction}
@@ -67,3 +68,18 @@ abbrev pub fail_of_lift : LiftFail → ClientFail
 fail_of_lift (lift.Wide e) = Failed e
 fail_of_lift (lift.Many e) = Failed e
 fail_of_lift lift.Memory = Memory
+
+-- the cells of sites that the view reads, with as many heights that it reads, are lost by wide numbers
+pub record ReadsLostSites (v : ViewSeen) : Type 0 where
+  pub sites : List Row
+  pub heights : List Ratio
+  pub read_sites : AreReadSites v sites
+  pub read_heights : AreReadHeights v heights
+  pub as_many : length heights ≡ length sites
+  pub lost : LiftingIsLost v.cols sites heights
+
+-- the Delaunay cells of sites that the view reads are lost by wide numbers
+pub record ReadsLostDelaunaySites (v : ViewSeen) : Type 0 where
+  pub sites : List Row
+  pub read_sites : AreReadSites v sites
+  pub lost : RaisingIsLost v.cols sites

@@ -3,6 +3,7 @@
 #![tactic(auto)]
 
 ghost use Rattle.pm_clients_lift.specs.Laws.{DelaunaySpheresAreEmpty};
+ghost use Rattle.pm_clients_lift.specs.LostExamples.{LostSitesAreRead};
 
 mod lifts;
 
@@ -11,4 +12,9 @@ pub use lifts::{LiftClient, LiftWork};
 /// The sites of each cell of right DELAUNAY_CELLS lie on a sphere, and all other sites outside of it.
 pub fn law_delaunay_spheres_are_empty()
     ensures { DelaunaySpheresAreEmpty }
+{}
+
+/// Views whose sites are lost by wide numbers, and views whose are not; how the wide clients fail.
+pub fn example_lost_sites()
+    ensures { LostSitesAreRead }
 {}

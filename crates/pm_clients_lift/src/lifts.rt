@@ -1,14 +1,15 @@
 // The clients that lift sites: the cells of the regular subdivision that heights induce, and Delaunay cells.
 
+ghost use Rattle.pm_client.specs.Fails.{IfOutOfRange};
 ghost use Rattle.pm_client.specs.Sound.{FailsRightly, IsSound, ReadsHeights};
 ghost use Rattle.pm_client.specs.declared.ClientFail.TheVariants.{Memory};
-ghost use Rattle.pm_clients_lift.specs.LiftedSites.{AreCellsPut, AreDelaunayPut, AreReadSites, LiftsSites, RaisesSites, fail_of_lift};
+ghost use Rattle.pm_clients_lift.specs.LiftedSites.{AreCellsPut, AreDelaunayPut, AreReadSites, LiftsSites, RaisesSites, ReadsLostDelaunaySites, ReadsLostSites, fail_of_lift};
 ghost use Rattle.pm_matrix.specs.Matrices.{IsFraction};
 ghost use Rattle.pm_object.specs.Reading.{IsView};
 ghost use Rattle.pm_props.specs.Sets.{has, set_of};
 ghost use Rattle.pm_props.specs.declared.property.PropId.TheVariants as property;
 ghost use Rattle.pm_standard.specs.declared.standard.StandardClient.TheVariants as client;
-ghost use Rattle.std.specs.Prelude.{All, IfErr, IfOk, IsTrue, OnOk, [], length, map, ◌∷◌, ◌≡◌, ◌≤◌};
+ghost use Rattle.std.specs.Prelude.{All, IfErr, IfOk, IsTrue, OnOk, [], length, map, true, ◌∷◌, ◌≡◌, ◌≤◌};
 ghost use Rattle.pm_limits.specs.Limits.{most_rows};
 
 use pm_client::{ClientFail, matrix_of, primitive_rows, put_value};
@@ -53,13 +54,13 @@ impl LiftWork {
 pub struct LiftFamily;
 
 /// A client that lifts sites (Ziegler, Lectures on Polytopes, section 5.1). It fails for want of memory, where a step
-/// leaves the range, and where a cone on the way has too many facets. A wide one works a step of double description
-/// that leaves the range by wide numbers, and where these do not suffice it fails as the standard one.
+/// leaves the range, and where a cone on the way has too many facets. A wide one fails for a step that leaves the range
+/// only where besides no row in the range is the lifted row of some site, or double description of the lifted rows is
+/// lost by wide numbers.
 pub type LiftClient = FamilyClient<LiftFamily>;
 
 impl Family for LiftFamily {
-    ghost use Rattle.pm_client.specs.Sound.{FailsRightly};
-    ghost use Rattle.pm_clients_lift.specs.Works.{lift_client};
+    ghost use Rattle.pm_clients_lift.specs.Works.{LiftFails, lift_client};
 
     type Work = LiftWork;
 
@@ -67,7 +68,7 @@ impl Family for LiftFamily {
 
     ghost Stays = { λ _ _ _. Unit {0} };
 
-    ghost Fails = { λ _ v e. FailsRightly v e };
+    ghost Fails = { LiftFails };
 
     fn client(work: LiftWork) -> StandardClient {
         match work {
@@ -136,6 +137,7 @@ fn regular_cells(alloc: Global, view: &View, wide: bool) -> Result<Sets, ClientF
     requires { LiftsSites view.now.kind }
     ensures cells { IfOk result (AreCellsPut view.now) }
     ensures failed { IfErr result (FailsRightly view.now) }
+    ensures lost { wide ≡ true → IfErr result (λ e. IfOutOfRange e (ReadsLostSites view.now)) }
 {
     let heights = read_heights(view);
     let sites = read_sites(alloc, view)?;
@@ -153,6 +155,7 @@ fn delaunay_cells(alloc: Global, view: &View, wide: bool) -> Result<Sets, Client
     requires { RaisesSites view.now.kind }
     ensures cells { IfOk result (AreDelaunayPut view.now) }
     ensures failed { IfErr result (FailsRightly view.now) }
+    ensures lost { wide ≡ true → IfErr result (λ e. IfOutOfRange e (ReadsLostDelaunaySites view.now)) }
 {
     let sites = read_sites(alloc, view)?;
     match pm_lift::delaunay_cells(alloc, view.cols(), &sites, wide) {
@@ -174,6 +177,7 @@ fn put_regular_cells(
     ensures draft { draft.new.kind ≡ draft.old.kind }
     ensures sound { OnOk result (IsSound view.now draft.new) }
     ensures failed { IfErr result (FailsRightly view.now) }
+    ensures lost { wide ≡ true → IfErr result (λ e. IfOutOfRange e (ReadsLostSites view.now)) }
 {
     let cells = regular_cells(alloc, view, wide)?;
     put_value(draft, PropId::RegularCells, Value::Sets(cells))?;
@@ -193,6 +197,7 @@ fn put_delaunay_cells(
     ensures draft { draft.new.kind ≡ draft.old.kind }
     ensures sound { OnOk result (IsSound view.now draft.new) }
     ensures failed { IfErr result (FailsRightly view.now) }
+    ensures lost { wide ≡ true → IfErr result (λ e. IfOutOfRange e (ReadsLostDelaunaySites view.now)) }
 {
     let cells = delaunay_cells(alloc, view, wide)?;
     put_value(draft, PropId::DelaunayCells, Value::Sets(cells))?;

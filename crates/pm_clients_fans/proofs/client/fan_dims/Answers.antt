@@ -1,14 +1,17 @@
 use Rattle.pm_client.proofs.ViewLaws.{has_listed, target_named}
 use Rattle.pm_client.proofs.Failing.{eliminates_in}
 use Rattle.pm_vector.proofs.Lists.{Contains_among, here}
+use Rattle.pm_client.proofs.Lost.{failed_lost}
 use Rattle.pm_clients_fans.proofs.Fans.{fan_view}
 use Rattle.pm_clients_fans.proofs.FoundFans.{dims_sound, fails_rightly, rows_cols}
 use Rattle.pm_client.specs.Sound.{EliminatesRows, FailsRightly, cone_rows, eliminated_by}
 use Rattle.pm_elim.specs.declared.evidence.ElimList.TheVariants as list
 use Rattle.pm_clients_fans.proofs.client.fan_dims.Goals as goal
 use Rattle.pm_object.specs.Reading.{IsView, ViewSeen}
-use Rattle.pm_clients_fans.specs.Cones.{ConesStay, ConesStayBy}
-use Rattle.pm_clients_fans.specs.Works.{FindsDims}
+use Rattle.pm_clients_fans.specs.Cones.{ConesStay, ConesStayBy, ReadsCones, ReadsLostCone}
+use Rattle.pm_clients_fans.specs.Works.{FanFails, FindsDims}
+use Rattle.pm_clients_fans.specs.declared.client.FanWork.TheVariants as work
+use Rattle.pm_fan.specs.Dimensions.{IsLostCone}
 use Rattle.pm_object_type.specs.declared.object_type.ObjectType.TheVariants.{Fan}
 use Rattle.pm_props.specs.declared.property.PropId.TheVariants.{LinealitySpace, MaximalCones, MaximalConesDims, Vertices}
 use Rattle.pm_props.specs.declared.property.PropId.{PropId}
@@ -98,4 +101,20 @@ returns-in_err-dims-clause-fails c =
           (record { rays = record { cols = c.matrix_of.result.now.cols; rows = c.matrix_of.result.now.rows; reads = c.matrix_of.ensures.value; primitive = c.in_ok-rays.ensures.rows }; lines = record { cols = c.matrix_of-2.result.now.cols; rows = c.matrix_of-2.result.now.rows; reads = c.matrix_of-2.ensures.value; primitive = c.in_ok-lines.ensures.rows }; reads = c.sets_of-cones.ensures.value })
           (rw (← c.deref.ensures.value, ← c.deref-2.ensures.value, ← c.cols.ensures.value) c.in_err-dims.ensures.wide),
       eliminates_in (λ l. l ≡ list.Rows) c.in_err-dims.field-0.0 c.in_err-dims.ensures.list,
+    ))
+
+pub returns-in_err-dims-clause-lost : goal.returns-in_err-dims-clause-lost
+returns-in_err-dims-clause-lost c = λ wide.
+    let v = c.args.view.now in
+    let V = c.in_ok-rays.rays.items in
+    let L = c.in_ok-lines.lines.items in
+    let index = c.sets_of-cones.result.now in
+    let f = c.in_err-dims.field-0.0 in
+    let read : ReadsCones v V L index = record { rays = record { cols = c.matrix_of.result.now.cols; rows = c.matrix_of.result.now.rows; reads = c.matrix_of.ensures.value; primitive = c.in_ok-rays.ensures.rows }; lines = record { cols = c.matrix_of-2.result.now.cols; rows = c.matrix_of-2.result.now.rows; reads = c.matrix_of-2.ensures.value; primitive = c.in_ok-lines.ensures.rows }; reads = c.sets_of-cones.ensures.value } in
+    let w = err_from_is_err_and c.from_residual-in_err-dims.result c.from_residual-in_err-dims.ensures.1 in
+    rw w.1 (subst (FanFails work.FanDimsWide v) (sym w.2) (
+      fails_rightly v V L index f (takes v c.requires.kind) read (rw (← c.deref.ensures.value, ← c.deref-2.ensures.value, ← c.cols.ensures.value) c.in_err-dims.ensures.wide),
+      eliminates_in (λ l. l ≡ list.Rows) f c.in_err-dims.ensures.list,
+      failed_lost f (IsLostCone v.cols V L index.rows) (ReadsLostCone v) (λ lost. record { V = V; L = L; index = index; read = read; lost = lost })
+          (rw (c.deref.ensures.value, c.deref-2.ensures.value, c.cols.ensures.value) at (c.in_err-dims.ensures.lost wide)),
     ))

@@ -1,11 +1,11 @@
+use Rattle.pm_client.specs.Fails.{IfFailed}
 use Rattle.std.proofs.Common.{subst, sym, ◌≡◌}
 use Rattle.std.proofs.lemmas.Result.{err_from_is_err_and}
 use Rattle.pm_client.proofs.Failing.{eliminates_in, fails_by_list}
 use Rattle.pm_client.specs.Sound.{EliminatesRows, FailsRightly}
 use Rattle.pm_elim.specs.declared.evidence.ElimList.TheVariants as list
-use Rattle.pm_clients_geom.proofs.FailedLost.{failed_lost}
+use Rattle.pm_client.proofs.Lost.{failed_lost}
 use Rattle.pm_clients_geom.specs.Lists.{IsLostList}
-use Rattle.pm_clients_geom.specs.Stays.{IfFailed}
 use Rattle.pm_elim.specs.Lost.{IsLost}
 use Rattle.pm_clients_geom.proofs.FoundDims.{rank_at_most}
 use Rattle.pm_clients_geom.proofs.dims.rank_of_list.Goals as goal

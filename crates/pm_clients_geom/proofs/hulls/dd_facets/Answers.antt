@@ -1,3 +1,4 @@
+use Rattle.pm_client.specs.Fails.{IfOutOfRange}
 use Rattle.pm_client.proofs.Failing.{fails_by_parts}
 use Rattle.pm_client.proofs.ViewLaws.{has_listed}
 use Rattle.pm_client.specs.Sound.{FailsRightly}
@@ -6,7 +7,7 @@ use Rattle.pm_clients_geom.proofs.FoundHulls.{facets_sound, lines_few, parts_of_
 use Rattle.pm_clients_geom.proofs.LostParts.{parts_lost}
 use Rattle.pm_clients_geom.proofs.RowLists.{first_source, second_source}
 use Rattle.pm_clients_geom.proofs.hulls.dd_facets.Goals as goal
-use Rattle.pm_clients_geom.specs.Hulls.{IfOutOfRange, ReadsLostParts}
+use Rattle.pm_clients_geom.specs.Hulls.{ReadsLostParts}
 use Rattle.pm_relations.proofs.Hulls.{order_cols}
 use Rattle.pm_props.specs.declared.property.PropId.TheVariants.{AffineHull, Facets}
 use Rattle.pm_props.specs.declared.property.PropId.{PropId}

@@ -1,12 +1,12 @@
+use Rattle.pm_client.specs.Fails.{IfOutOfRange}
 use Rattle.pm_client.proofs.Failing.{fails_by_parts}
-use Rattle.pm_client.proofs.FreshOrders.{fresh_kind}
 use Rattle.pm_client.specs.Sound.{FailsRightly}
 use Rattle.pm_client.specs.declared.ClientFail.{ClientFail}
 use Rattle.pm_clients_geom.proofs.FoundHulls.{by_halves, cut_no_fan, fresh_of_halves, halves_of_no_fan, lines_few, parts_of_halves, rays_few, rays_sound}
 use Rattle.pm_clients_geom.proofs.LostParts.{parts_lost}
 use Rattle.pm_clients_geom.proofs.RowLists.{first_source, second_source}
 use Rattle.pm_clients_geom.proofs.hulls.dd_vertices.Goals as goal
-use Rattle.pm_clients_geom.specs.Hulls.{IfOutOfRange, ReadsLostParts, cut_type}
+use Rattle.pm_clients_geom.specs.Hulls.{ReadsLostParts, cut_type}
 use Rattle.pm_dd.specs.Hulls.{half_spaces_of}
 use Rattle.std.proofs.Common.{subst, sym}
 use Rattle.std.proofs.lemmas.Result.{err_from_is_err_and}

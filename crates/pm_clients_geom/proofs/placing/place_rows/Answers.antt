@@ -1,6 +1,7 @@
 use Rattle.pm_beneath.proofs.SortedLaws.{ordered_apart}
 use Rattle.pm_clients_geom.proofs.FoundHulls.{parts_of_generators}
 use Rattle.pm_clients_geom.proofs.FoundPlaced.{fails_by_placing}
+use Rattle.pm_clients_geom.proofs.LostParts.{placing_lost}
 use Rattle.pm_clients_geom.proofs.RowLists.{first_source, second_source}
 use Rattle.pm_clients_geom.proofs.placing.place_rows.Goals as goal
 use Rattle.std.proofs.Common.{arith, map, sym}
@@ -38,3 +39,15 @@ returns-in-Err-clause-failed c =
     rw c.client_fail.ensures (fails_by_placing v c.args.first c.args.second kind c.in_ok-parts.parts.first.items c.in_ok-parts.parts.second.items
     (parts_of_generators v c.args.first c.args.second c.in_ok-parts.parts.first.items c.in_ok-parts.parts.second.items kind.parts kind.generators c.in_ok-parts.ensures.read) c.in-Err.fail
     (rw (c.deref.ensures.value, c.deref-2.ensures.value, c.cols.ensures.value) at c.in-Err.ensures.shown))
+
+pub returns-in-Err-clause-lost : goal.returns-in-Err-clause-lost
+returns-in-Err-clause-lost c = λ e.
+    let v = c.args.view.now in
+    let kind = c.requires.kind in
+    let parts = parts_of_generators v c.args.first c.args.second c.in_ok-parts.parts.first.items c.in_ok-parts.parts.second.items kind.parts kind.generators c.in_ok-parts.ensures.read in
+    let shown = rw (c.deref.ensures.value, c.deref-2.ensures.value, c.cols.ensures.value) at c.in-Err.ensures.shown in
+    let lost = rw (c.deref.ensures.value, c.deref-2.ensures.value, c.cols.ensures.value) at (c.in-Err.ensures.lost e) in
+    rw c.client_fail.ensures (
+      fails_by_placing v c.args.first c.args.second kind c.in_ok-parts.parts.first.items c.in_ok-parts.parts.second.items parts c.in-Err.fail shown,
+      placing_lost v c.in_ok-parts.parts.first.items c.in_ok-parts.parts.second.items c.in-Err.fail parts shown lost,
+    )

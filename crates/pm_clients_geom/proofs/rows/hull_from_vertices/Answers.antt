@@ -1,11 +1,11 @@
+use Rattle.pm_client.specs.Fails.{IfFailed}
 use Rattle.std.proofs.lemmas.Result.{err_from_is_err_and}
 use Rattle.pm_client.proofs.Failing.{eliminates_in, fails_by_list}
 use Rattle.pm_family.proofs.Failing.{takes_alone}
 use Rattle.pm_client.specs.Sound.{EliminatesExtended, FailsRightly}
 use Rattle.pm_elim.specs.declared.evidence.ElimList.TheVariants as elimination_list
-use Rattle.pm_clients_geom.proofs.FailedLost.{failed_lost}
+use Rattle.pm_client.proofs.Lost.{failed_lost}
 use Rattle.pm_clients_geom.specs.Lists.{IsLostExtendedList}
-use Rattle.pm_clients_geom.specs.Stays.{IfFailed}
 use Rattle.pm_elim.specs.Lost.{IsLostOnExtended}
 use Rattle.pm_clients_geom.proofs.NullMatrices.{hull_sound}
 use Rattle.pm_client.proofs.ViewLaws.{has_listed, not_fan, target_named}

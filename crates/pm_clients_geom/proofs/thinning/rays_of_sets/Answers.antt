@@ -1,3 +1,4 @@
+use Rattle.pm_client.specs.Fails.{IfFailed}
 use Rattle.pm_client.proofs.Failing.{fails_by_facet_sets}
 use Rattle.pm_client.proofs.ViewLaws.{has_listed, not_fan, source_named}
 use Rattle.pm_client.specs.Sound.{FailsRightly}
@@ -11,6 +12,9 @@ use Rattle.pm_props.specs.declared.property.PropId.{PropId}
 use Rattle.std.proofs.Common.{ap, arith, refl, subst, sym, ◌∙◌}
 use Rattle.std.proofs.lemmas.Result.{err_from_is_err_and}
 use Rattle.std.specs.Prelude.{List, [], ◌∷◌}
+use Rattle.pm_client.specs.declared.ClientFail.{ClientFail}
+use Rattle.pm_clients_geom.proofs.LostThinning.{sets_lost}
+use Rattle.pm_clients_geom.specs.Thinned.{ReadsLostSets}
 
 abbrev sources : List PropId
 sources = Facets ∷ AffineHull ∷ VerticesInFacets ∷ []
@@ -34,6 +38,15 @@ returns-in_err-found-clause-failed c =
     rw w.1 (subst (FailsRightly v) (sym w.2)
     (fails_by_facet_sets v c.requires.kind.lists c.requires.kind.determines c.in_ok-halves.halves.first.items c.in_ok-halves.halves.second.items (turned c.sets_of-sets.result.now) c.in_err-found.field-0.0
     (ray_sets c.sets_of-sets.result.now c.in_ok-halves.ensures.read c.sets_of-sets.ensures.value) (no_facet_added v.of v.cols) (rw c.cols.ensures.value at c.in_err-found.ensures.failed)))
+
+pub returns-in_err-found-clause-lost : goal.returns-in_err-found-clause-lost
+returns-in_err-found-clause-lost c = λ wide.
+    let v = c.args.view.now in
+    let w = err_from_is_err_and c.from_residual-in_err-found.result c.from_residual-in_err-found.ensures.1 in
+    rw w.1 (subst (λ (f : ClientFail). IfFailed f (ReadsLostSets v AffineHull Facets)) (sym w.2)
+    (sets_lost v AffineHull Facets c.in_ok-halves.halves.first.items c.in_ok-halves.halves.second.items (turned c.sets_of-sets.result.now)
+    (ray_sets c.sets_of-sets.result.now c.in_ok-halves.ensures.read c.sets_of-sets.ensures.value) c.in_err-found.field-0.0
+    (rw c.cols.ensures.value at c.in_err-found.ensures.failed) (rw c.cols.ensures.value at (c.in_err-found.ensures.lost wide))))
 
 pub returns-clause-sound : goal.returns-clause-sound
 returns-clause-sound c =

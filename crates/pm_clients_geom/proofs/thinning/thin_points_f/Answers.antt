@@ -1,3 +1,4 @@
+use Rattle.pm_client.specs.Fails.{IfFailed}
 use Rattle.pm_client.proofs.Failing.{fails_by_points}
 use Rattle.pm_client.proofs.FreshOrders.{fresh_kind}
 use Rattle.pm_client.proofs.ViewLaws.{has_listed, not_fan, source_named}
@@ -11,6 +12,9 @@ use Rattle.pm_props.specs.declared.property.PropId.{PropId}
 use Rattle.std.proofs.Common.{refl, subst, sym}
 use Rattle.std.proofs.lemmas.Result.{err_from_is_err_and}
 use Rattle.std.specs.Prelude.{List, [], ◌∷◌}
+use Rattle.pm_client.specs.declared.ClientFail.{ClientFail}
+use Rattle.pm_clients_geom.proofs.LostThinning.{points_lost}
+use Rattle.pm_clients_geom.specs.Thinned.{ReadsLostRows}
 
 abbrev sources : List PropId
 sources = Points ∷ InputLineality ∷ Facets ∷ AffineHull ∷ []
@@ -43,6 +47,15 @@ pub put_generators-requires-clause-lines : goal.put_generators-requires-clause-l
 put_generators-requires-clause-lines c =
     let b = rw c.cols.ensures.value at c.in_ok-found.ensures.echelon in
     echelon_few c.args.view.now c.cols.ensures.view c.in_ok-found.found.lineality.items b.0 b.1
+
+pub returns-in_err-found-clause-lost : goal.returns-in_err-found-clause-lost
+returns-in_err-found-clause-lost c = λ wide.
+    let v = c.args.view.now in
+    let w = err_from_is_err_and c.from_residual-in_err-found.result c.from_residual-in_err-found.ensures.1 in
+    rw w.1 (subst (λ (f : ClientFail). IfFailed f (ReadsLostRows v InputLineality Points Facets)) (sym w.2)
+    (points_lost v c.in_ok-points.points.first.items c.in_ok-points.points.second.items c.in_ok-halves.halves.second.items c.in_err-found.field-0.0
+    (first_rows_of c.in_ok-points.ensures.read) (second_rows_of c.in_ok-points.ensures.read) (second_rows_of c.in_ok-halves.ensures.read) (no_point_added v.of v.cols)
+    (rw c.cols.ensures.value at c.in_err-found.ensures.failed) (rw c.cols.ensures.value at (c.in_err-found.ensures.lost wide))))
 
 pub returns-clause-sound : goal.returns-clause-sound
 returns-clause-sound c =

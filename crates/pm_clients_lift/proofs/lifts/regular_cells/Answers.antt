@@ -1,6 +1,7 @@
 -- Cells are found of the sites and heights that the view reads, or there are more or fewer heights than sites.
 use Rattle.pm_client.proofs.ViewLaws.{has_listed}
 use Rattle.pm_clients_lift.proofs.FoundLifted.{fails_by_lifting, no_cells}
+use Rattle.pm_clients_lift.proofs.LostSites.{lifting_as, sites_lost}
 use Rattle.pm_clients_lift.proofs.lifts.regular_cells.Goals as goal
 use Rattle.pm_props.specs.declared.property.PropId.TheVariants.{SiteHeights, Sites}
 use Rattle.std.proofs.Common.{[], ap, arith, inl, length, map, refl, ◌∷◌}
@@ -42,3 +43,12 @@ pub returns-clause-failed : goal.returns-clause-failed
 returns-clause-failed c =
     rw c.client_fail.ensures (fails_by_lifting c.args.view.now c.in_ok-sites.sites.items c.read_heights-heights.result.now c.requires c.in_ok-sites.ensures.read
     (record { reads = c.read_heights-heights.ensures.read; fractions = c.read_heights-heights.ensures.fractions }) c.in-Err.fail (rw (c.deref.ensures.value, c.cols.ensures.value) at c.in-Err.ensures.failed))
+
+pub returns-clause-lost : goal.returns-clause-lost
+returns-clause-lost c = λ wide.
+    let whole = c.in_ok-sites.sites.ok in
+    let count = c.len.ensures in
+    let same = c.if-heights-len.false in
+    rw c.client_fail.ensures (sites_lost c.args.view.now c.in_ok-sites.sites.items c.read_heights-heights.result.now c.in_ok-sites.ensures.read
+    (record { reads = c.read_heights-heights.ensures.read; fractions = c.read_heights-heights.ensures.fractions }) (omega arith) c.in-Err.fail
+    (rw (c.deref.ensures.value, c.cols.ensures.value) at c.in-Err.ensures.failed) (lifting_as c.cols.result c.args.view.now.cols c.deref.result.now c.in_ok-sites.sites.items c.read_heights-heights.result.now c.in-Err.fail c.cols.ensures.value c.deref.ensures.value (c.in-Err.ensures.lost wide)))
