@@ -7,5 +7,6 @@ pub mod Members
 pub mod Ascending
 pub mod EndOfLine
 pub mod Scanned
+pub mod Compact
 pub mod Examples
 pub mod FileExamples

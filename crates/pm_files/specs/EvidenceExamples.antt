@@ -1,5 +1,5 @@
 -- Evidence as JSON: what is written, and what is not.
-use Rattle.std.specs.Prelude.{List, None, Some, [], codes, ◌≡◌, ◌≢◌, ◌∷◌}
+use Rattle.std.specs.Prelude.{None, Some, [], codes, ◌≡◌, ◌≢◌, ◌∷◌}
 use Rattle.pm_elim.specs.EliminationSteps.{EliminationStep}
 use Rattle.pm_elim.specs.declared.evidence.ElimList.{ElimList}
 use Rattle.pm_elim.specs.declared.evidence.ElimList.TheVariants.{Extended, ExtendedWithout, Rows, Without}

@@ -1,10 +1,9 @@
 -- Values as JSON: what is written, and what is not.
-use Rattle.std.specs.Prelude.{ℕ, List, [], ◌∷◌, codes, true, false, ◌≡◌, ◌≢◌}
+use Rattle.std.specs.Prelude.{List, [], ◌∷◌, codes, true, false, ◌≡◌, ◌≢◌}
 use Rattle.pm_vector.specs.Numbers.{Ratio}
 use Rattle.pm_fraction.specs.Fractions.{ratio_of}
-use Rattle.pm_props.specs.declared.property.PropId.{PropId}
 use Rattle.pm_props.specs.declared.property.PropId.TheVariants.{Bounded, ConeDim, FVector, Graph, HasseDiagram, LinearObjective, MaximalValue, Points, VerticesInFacets}
-use Rattle.pm_types.specs.Values.{PropertyValue, matrix, sets, whole, truth, extended, edges, lattice, counts, finite, plus_infinity, minus_infinity}
+use Rattle.pm_types.specs.Values.{matrix, sets, whole, truth, extended, edges, lattice, counts, finite, plus_infinity, minus_infinity}
 use Rattle.pm_files.specs.ValueJson.{value_text}
 use lib.IntN.{pos, negsuc}
 

@@ -1,7 +1,7 @@
 -- The JSON of a value of a property, as polymake's data files have it (Assarf, Gawrilow et al., Computing convex
 -- hulls and counting integer points with polymake): fractions and infinities are texts, indices and whole numbers are
 -- numbers.
-use Rattle.std.specs.Prelude.{ℕ, List, [], ◌∷◌, ◌++◌, ◌==◌, if◌then◌else◌, map, codes}
+use Rattle.std.specs.Prelude.{ℕ, Bool, true, false, List, [], ◌∷◌, ◌++◌, ◌==◌, if◌then◌else◌, map, codes}
 use Rattle.pm_vector.specs.Numbers.{Ratio}
 use Rattle.pm_fraction.specs.Text.{text_of}
 use Rattle.pm_props.specs.declared.property.PropId.{PropId}
@@ -39,6 +39,12 @@ matrix_json n (r ∷ rows) = array_of (map row_json (r ∷ rows))
 abbrev pub objective_json : List (List Ratio) → Data
 objective_json [] = array_of []
 objective_json (r ∷ rows) = row_json r
+
+-- the values of p are one row each
+abbrev pub is_one_row : PropId → Bool
+is_one_row LinearObjective = true
+is_one_row SiteHeights = true
+is_one_row p = false
 
 abbrev pub rows_json : PropId → ℕ → List (List Ratio) → Data
 rows_json LinearObjective n rows = objective_json rows

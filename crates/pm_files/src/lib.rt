@@ -9,12 +9,14 @@ ghost use Rattle.pm_files.specs.Laws.{FilesAreShallow, FilesHaveNoFloat, FilesHo
 
 mod evidence;
 mod file;
+mod text;
 mod value;
 mod write;
 
 pub use evidence::evidence_text;
 pub use file::{FileObject, FileProgram};
-pub use value::{value_json, value_text};
+pub use text::value_text;
+pub use value::value_json;
 pub use write::{object_bytes, type_text};
 
 /// The JSON of a value nests three levels at most.

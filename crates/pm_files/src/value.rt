@@ -1,11 +1,10 @@
 // Values of properties as JSON.
 
-ghost use Rattle.pm_files.specs.ValueJson.{cols_json, counts_json, edges_json, extended_json, fraction_json, json_of, lattice_json, matrix_json, objective_json, row_json, rows_json, set_json, sets_json, value_text, whole_json};
+ghost use Rattle.pm_files.specs.ValueJson.{cols_json, counts_json, edges_json, extended_json, fraction_json, is_one_row, json_of, lattice_json, matrix_json, objective_json, row_json, rows_json, set_json, sets_json, whole_json};
 ghost use Rattle.pm_types.specs.Lists.{lists_of};
 ghost use Rattle.pm_types.specs.Views.{extended_of, view_of};
-ghost use Rattle.serde_json.specs.Read.{read};
 ghost use Rattle.serde_json.specs.View.{view};
-ghost use Rattle.std.specs.Prelude.{IfOk, Some, map, string_bytes, ◌≡◌};
+ghost use Rattle.std.specs.Prelude.{IfOk, map, ◌≡◌};
 
 use pm_fraction::Fraction;
 use pm_matrix::Matrix;
@@ -71,11 +70,18 @@ pub(crate) fn objective_json(alloc: Global, m: &Matrix) -> Result<Json, AllocErr
     row_json(alloc, m.row(0))
 }
 
+/// Whether the values of a property are one row each: an objective, or heights.
+pub(crate) fn is_one_row(p: PropId) -> bool
+    ensures { result ≡ is_one_row p }
+{
+    p == PropId::LinearObjective || p == PropId::SiteHeights
+}
+
 /// A value of a property whose values are matrices.
 fn rows_json(alloc: Global, p: PropId, m: &Matrix) -> Result<Json, AllocError>
     ensures { IfOk result (λ j. view j ≡ rows_json p m.now.cols m.now.rows) }
 {
-    if p == PropId::LinearObjective || p == PropId::SiteHeights {
+    if is_one_row(p) {
         objective_json(alloc, m)
     } else {
         matrix_json(alloc, m)
@@ -174,14 +180,4 @@ pub fn value_json(alloc: Global, p: PropId, v: &Value) -> Result<Json, AllocErro
         Value::Lattice(lattice) => lattice_json(alloc, lattice.ranks()),
         Value::Number(number) => extended_json(alloc, number),
     }
-}
-
-/// The text of a value of a property: its JSON without spaces, which is read as that JSON.
-pub fn value_text(alloc: Global, p: PropId, v: &Value) -> Result<String, AllocError>
-    ensures text { IfOk result (λ t. string_bytes t ≡ value_text p (view_of v.now)) }
-    ensures reads_back { IfOk result (λ t. read (string_bytes t) ≡ Some (json_of p (view_of v.now))) }
-{
-    let json = value_json(alloc, p, v)?;
-    let text = json.to_string(alloc)?;
-    Ok(text)
 }

@@ -1,6 +1,6 @@
 -- The JSON of a value has no float, so its text is the compact one, and it is shallow enough to be read again.
 use Rattle.pm_files.proofs.Plain.{value_depth, value_whole}
-use Rattle.pm_files.proofs.value.value_text.Goals as goal
+use Rattle.pm_files.proofs.text.json_text.Goals as goal
 use Rattle.pm_types.specs.Views.{view_of}
 use Rattle.serde_json.specs.Data.{depth}
 use Rattle.serde_json.specs.Read.{max_depth}
