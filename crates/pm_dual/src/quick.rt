@@ -6,7 +6,7 @@ ghost use Rattle.std.specs.Prelude.{IfOk, IfSome, length, ◌<◌};
 
 use crate::answer::LpAnswer;
 use crate::check::{infeasible, optimum, unbounded};
-use crate::rows::Rows;
+use crate::rows::{Rows, short_rows};
 use crate::search::{Guess, search};
 use crate::whole::whole_objective;
 use pm_fraction::Fraction;
@@ -29,9 +29,11 @@ pub fn quick_answer(
     let Some(whole) = whole_objective(alloc, objective)? else {
         return Ok(None);
     };
+    let short = short_rows(alloc, inequalities)?;
     let rows = Rows {
         inequalities,
         equations,
+        short: &short,
     };
     let Some(guess) = search(alloc, rows, whole.row.as_slice())? else {
         return Ok(None);

@@ -90,6 +90,25 @@ fn slope_multipliers(
     Ok(Some(multipliers))
 }
 
+/// Whether all numbers but the first are 0, so that any point will do.
+fn is_constant(objective: &[i128]) -> bool {
+    for i in 1..objective.len() {
+        if objective[i] != 0 {
+            return false;
+        }
+    }
+    true
+}
+
+/// The objective that the search goes by: where any point will do that of ones, since steps that lose nothing may go
+/// in a circle.
+fn guide(alloc: Global, objective: &[i128]) -> Result<Vec<i128>, AllocError> {
+    if is_constant(objective) {
+        return vec![in alloc; 1; objective.len()];
+    }
+    Vec::from_slice(alloc, objective)
+}
+
 /// The guess where no row is missed.
 fn at_end(
     alloc: Global,
@@ -105,6 +124,10 @@ fn at_end(
             point,
             direction: vertex.far,
         }));
+    }
+    if is_constant(objective) {
+        let multipliers = no_multipliers(alloc, rows)?;
+        return Ok(Some(Guess::Optimal { point, multipliers }));
     }
     let Some(multipliers) = gain_multipliers(alloc, rows, &vertex)? else {
         return Ok(None);
@@ -122,8 +145,8 @@ enum Step {
 }
 
 /// One step: the row that is missed most is met.
-fn make_step(rows: Rows, vertex: &mut Vertex) -> Result<Step, AllocError> {
-    let Ok(worst) = vertex.worst(rows) else {
+fn make_step(alloc: Global, rows: Rows, vertex: &mut Vertex) -> Result<Step, AllocError> {
+    let Ok(worst) = vertex.worst(alloc, rows)? else {
         return Ok(Step::Lost);
     };
     let Some(violated) = worst else {
@@ -148,9 +171,10 @@ pub(crate) fn search(
     rows: Rows,
     objective: &[i128],
 ) -> Result<Option<Guess>, AllocError> {
-    let mut vertex = Vertex::start(alloc, objective)?;
+    let guide = guide(alloc, objective)?;
+    let mut vertex = Vertex::start(alloc, &guide)?;
     for _i in 0..STEPS {
-        match make_step(rows, &mut vertex)? {
+        match make_step(alloc, rows, &mut vertex)? {
             Step::Moved => {}
             Step::Lost => return Ok(None),
             Step::End => return at_end(alloc, rows, objective, vertex),

@@ -1,6 +1,6 @@
 // A vertex of a program that is bounded by a box without end, by whole numbers over one scale.
 
-use crate::rows::{Row, Rows, sum_of_products};
+use crate::rows::{Row, Rows, short_numbers, sum_of_products};
 use crate::wide::{Divisor, is_ratio_less, make_divisor};
 use std::alloc::{AllocError, Global};
 
@@ -30,6 +30,14 @@ pub(crate) struct Violated {
     pub row: Row,
     pub far: i128,
     pub near: i128,
+}
+
+/// The parts of a vertex where their numbers are short, and whether the far one is 0.
+#[derive(Clone, Copy)]
+struct Short<'a> {
+    near: &'a [i64],
+    far: &'a [i64],
+    is_near: bool,
 }
 
 /// A row of zeros but for one place.
@@ -114,27 +122,47 @@ impl Vertex {
     }
 
     /// The products of a row, where the vertex does not meet it; an error where a product is not small.
-    fn violated(&self, rows: Rows, row: Row) -> Result<Option<Violated>, ()> {
-        let far = rows.product(row, &self.far).ok_or(())?;
+    fn violated(&self, rows: Rows, row: Row, short: Short) -> Result<Option<Violated>, ()> {
+        let far = if short.is_near {
+            0
+        } else {
+            rows.quick_product(row, &self.far, short.far).ok_or(())?
+        };
         if far > 0 {
             return Ok(None);
         }
-        let near = rows.product(row, &self.near).ok_or(())?;
+        let near = rows.quick_product(row, &self.near, short.near).ok_or(())?;
         if far == 0 && near >= 0 {
             return Ok(None);
         }
         Ok(Some(Violated { row, far, near }))
     }
 
+    /// The row that is missed most, if products are small.
+    pub(crate) fn worst(
+        &self,
+        alloc: Global,
+        rows: Rows,
+    ) -> Result<Result<Option<Violated>, ()>, AllocError> {
+        let short_near = short_numbers(alloc, &self.near)?;
+        let short_far = short_numbers(alloc, &self.far)?;
+        let short = Short {
+            near: &short_near,
+            far: &short_far,
+            is_near: self.far.iter().all(|x| *x == 0),
+        };
+        Ok(self.worst_by(rows, short))
+    }
+
     /// The row that is missed most.
-    pub(crate) fn worst(&self, rows: Rows) -> Result<Option<Violated>, ()> {
+    fn worst_by(&self, rows: Rows, short: Short) -> Result<Option<Violated>, ()> {
         let mut worst = None;
         for i in 0..rows.inequalities.len() {
-            worst = worse(worst, self.violated(rows, Row::Inequality(i))?);
+            worst = worse(worst, self.violated(rows, Row::Inequality(i), short)?);
         }
         for i in 0..rows.equations.len() {
-            worst = worse(worst, self.violated(rows, Row::Equation(i))?);
-            worst = worse(worst, self.violated(rows, Row::Opposite(i))?);
+            worst = worse(worst, self.violated(rows, Row::Equation(i), short)?);
+            worst = worse(worst, self.violated(rows, Row::Opposite(i), short)?);
         }
         Ok(worst)
     }

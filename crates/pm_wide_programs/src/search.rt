@@ -106,6 +106,17 @@ fn without_point(
     Ok(Some(Guess::Infeasible { multipliers }))
 }
 
+/// The objective that the search goes by: where all numbers but the first are 0, so that any point will do, that of
+/// ones, since steps that lose nothing may go in a circle.
+fn guide(alloc: Global, objective: &[i128]) -> Result<Vec<i128>, AllocError> {
+    for i in 1..objective.len() {
+        if objective[i] != 0 {
+            return Vec::from_slice(alloc, objective);
+        }
+    }
+    vec![in alloc; 1; objective.len()]
+}
+
 /// A guess of the answer. None where a number on the way has more than 512 bits, or the steps are too many.
 pub(crate) fn search(
     alloc: Global,
@@ -113,9 +124,10 @@ pub(crate) fn search(
     count: usize,
     objective: &[i128],
 ) -> Result<Option<Guess>, AllocError> {
-    let mut vertex = Vertex::start(alloc, objective)?;
+    let guide = guide(alloc, objective)?;
+    let mut vertex = Vertex::start(alloc, &guide)?;
     for _i in 0..STEPS {
-        match make_step(rows, count, objective, &mut vertex)? {
+        match make_step(rows, count, &guide, &mut vertex)? {
             Step::Moved => {}
             Step::Lost => return Ok(None),
             Step::End => return at_end(alloc, rows, count, objective, vertex),
