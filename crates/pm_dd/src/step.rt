@@ -60,7 +60,7 @@ pub fn products(alloc: Global, row: &Ints, rays: &[Ints], wide: bool) -> Result<
         IfProduct f (λ i. (i < length rays.now) × ¬ (ProductsStay row.now (ray rays.now i)))) }
     ensures never { IfErr result (λ f. IfProduct f (λ i. ¬ (IsTrue wide))) }
 {
-    let mut made = Vec::new(alloc);
+    let mut made = Vec::with_capacity(alloc, rays.len())?;
     for i in 0..rays.len() {
         let Ok(value) = product(row, &rays[i], wide) else {
             return Err(StepFail::Product(i));

@@ -25,7 +25,7 @@ fn read_entries(alloc: Global, most: usize, items: &[Value]) -> Result<Vec<Fract
     ensures fault { IfErr result (λ e. e ≢ ValueFail.Memory
         → entries_from most 0 (items_view items.now) ≡ Err e) }
 {
-    let mut row = Vec::new(alloc);
+    let mut row = Vec::with_capacity(alloc, items.len().min(most))?;
     for item in items {
         let entry = read_entry(item)?;
         if row.len() >= most {
@@ -61,7 +61,7 @@ fn read_later_row(alloc: Global, cols: usize, items: &[Value]) -> Result<Vec<Fra
     ensures fault { IfErr result (λ e. e ≢ ValueFail.Memory
         → later_row_from cols 0 (items_view items.now) ≡ Err e) }
 {
-    let mut row = Vec::new(alloc);
+    let mut row = Vec::with_capacity(alloc, items.len().min(cols))?;
     for item in items {
         if row.len() >= cols {
             return Err(ValueFail::Shape);

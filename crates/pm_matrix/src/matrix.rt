@@ -89,7 +89,7 @@ impl Matrix {
     pub fn copy(&self, alloc: Global) -> Result<Matrix, AllocError>
         ensures { IfOk result (λ a. a ≡ self.now) }
     {
-        let mut rows = Vec::new(alloc);
+        let mut rows = Vec::with_capacity(alloc, self.rows())?;
         for i in 0..self.rows() {
             rows.push(copy_of(&alloc, self.row(i))?)?;
         }
@@ -156,7 +156,7 @@ fn copy_of(alloc: &Global, row: &[Fraction]) -> Result<Vec<Fraction>, AllocError
     ensures value { IfOk result (λ v. v.items ≡ row.now) }
     ensures entries { IfOk result (λ v. All IsFraction v.items) }
 {
-    let mut copy = Vec::new(*alloc);
+    let mut copy = Vec::with_capacity(*alloc, row.len())?;
     for i in 0..row.len() {
         copy.push(known(row[i]))?;
     }

@@ -96,7 +96,7 @@ fn scaled_numerators(alloc: Global, row: &[Fraction], m: u128) -> Result<Ints, R
     ensures stays { OnOk result (NumeratorsStay row.now m (length row.now)) }
     ensures wide { IfErr result (IsWideAt row.now) }
 {
-    let mut numerators = Ints::new(alloc);
+    let mut numerators = Ints::from_vec(Vec::with_capacity(alloc, row.len())?);
     for i in 0..row.len() {
         numerators.push(scaled_numerator(m, row[i])?)?;
     }

@@ -20,6 +20,12 @@ pub fn quotient(number: i128, first: i128) -> Fraction
     requires first_in_range { InRange first }
     ensures { IsLowestTermsOf (ratio_of number first) result }
 {
+    if first == 1 {
+        let Ok(whole) = Fraction::from_whole(number) else {
+            unreachable!()
+        };
+        return whole;
+    }
     let Ok(quotient) = Fraction::new(number, first) else {
         unreachable!()
     };
@@ -32,7 +38,7 @@ pub fn over_first(alloc: Global, row: &Ints) -> Result<Vec<Fraction>, AllocError
     requires first { pos 0 <ℤ entry row.now 0 }
     ensures { IfOk result (λ v. IsOverFirst row.now v.items) }
 {
-    let mut fractions = Vec::new(alloc);
+    let mut fractions = Vec::with_capacity(alloc, row.len())?;
     for k in 0..row.len() {
         fractions.push(quotient(row.get(k), row.get(0)))?;
     }
@@ -44,8 +50,8 @@ pub fn over_one(alloc: Global, row: &Ints) -> Result<Vec<Fraction>, AllocError>
     ensures value { IfOk result (λ v. v.items ≡ ratios row.now) }
     ensures in_range { All InRange row.now }
 {
-    let mut fractions = Vec::new(alloc);
     let entries = row.as_slice();
+    let mut fractions = Vec::with_capacity(alloc, entries.len())?;
     for x in entries {
         let Ok(fraction) = Fraction::from_whole(*x) else {
             unreachable!()

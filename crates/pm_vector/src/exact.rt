@@ -39,7 +39,7 @@ pub fn times(a: i128, b: i128) -> Result<i128, Wide>
     ensures wide { OnErr result (InRange (a *ℤ b) → ⊥) }
 {
     if is_small(a) && is_small(b) {
-        return Ok(a * b);
+        return Ok(i128::from(a as i64) * i128::from(b as i64));
     }
     a.checked_mul(b).filter(|r| is_in_range(*r)).ok_or(Wide)
 }

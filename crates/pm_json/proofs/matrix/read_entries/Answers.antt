@@ -15,7 +15,7 @@ abbrev left : ℕ → List Ratio → List Value → Read (List Ratio)
 left most row vs = with_front row (entries_from most (length row) (items_view vs))
 
 pub loop-item-init : goal.loop-item-init
-loop-item-init c = rw c.new-row.ensures.items (sym (with_front-nil (entries_from c.args.most 0 (items_view c.args.items.now))))
+loop-item-init c = rw c.in_ok-row.ensures.items (sym (with_front-nil (entries_from c.args.most 0 (items_view c.args.items.now))))
 
 pub loop-item-preserved : goal.loop-item-preserved
 loop-item-preserved c =
@@ -42,7 +42,7 @@ returns-in_err-entry-clause-fault c =
     let row = c.loop-item.row.items in
     let vs = c.args.items.now in
     let i = c.loop-item.item-index in
-    let p = err_from_is_err_and c.from_residual.result c.from_residual.ensures.1 in
+    let p = err_from_is_err_and c.from_residual-in_err-entry.result c.from_residual-in_err-entry.ensures.1 in
     rw (p.1, p.2) (λ memory. c.loop-item.invariant
     ∙ ap (left c.args.most row) (next_item vs i c.item-item.result c.loop-item-test.true c.item-item.is)
     ∙ entries_from-no_entry c.args.most row (length row) (view c.item-item.result) (items_view (drop (suc i) vs)) c.in_err-entry.field-0.0 (sym c.in_err-entry.ensures))

@@ -15,7 +15,7 @@ abbrev left : ℕ → List Ratio → List Value → Read (List Ratio)
 left n row vs = with_front row (later_row_from n (length row) (items_view vs))
 
 pub loop-item-init : goal.loop-item-init
-loop-item-init c = rw c.new-row.ensures.items (sym (with_front-nil (later_row_from c.args.cols 0 (items_view c.args.items.now))))
+loop-item-init c = rw c.in_ok-row.ensures.items (sym (with_front-nil (later_row_from c.args.cols 0 (items_view c.args.items.now))))
 
 pub loop-item-preserved : goal.loop-item-preserved
 loop-item-preserved c =
@@ -65,7 +65,7 @@ returns-in_err-entry-clause-fault c =
     let i = c.loop-item.item-index in
     let n = c.args.cols in
     let room : length row < n = omega (arith, c.len.ensures, c.loop-item.row.ok, c.if-len-cols.false) in
-    let p = err_from_is_err_and c.from_residual.result c.from_residual.ensures.1 in
+    let p = err_from_is_err_and c.from_residual-in_err-entry.result c.from_residual-in_err-entry.ensures.1 in
     rw (p.1, p.2) (λ memory. c.loop-item.invariant
     ∙ ap (left n row) (next_item vs i c.item-item.result c.loop-item-test.true c.item-item.is)
     ∙ later_row_from-no_entry n row (view c.item-item.result) (items_view (drop (suc i) vs)) c.in_err-entry.field-0.0 room (sym c.in_err-entry.ensures))

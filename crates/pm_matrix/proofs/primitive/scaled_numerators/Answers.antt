@@ -17,7 +17,7 @@ loop-i-preserved c =
 pub returns-in_err-scaled_numerator-clause-wide : goal.returns-in_err-scaled_numerator-clause-wide
 returns-in_err-scaled_numerator-clause-wide c =
     let is : c.index-row-i.result ≡ ratio_at c.args.row.now c.loop-i.i = get_or_read c.args.row.now c.loop-i.i c.index-row-i.result c.loop-i-test.true c.index-row-i.is (record { num = pos 0; den = pos 1 }) in
-    let p = err_from_is_err_and c.from_residual.result c.from_residual.ensures.1 in
+    let p = err_from_is_err_and c.from_residual-in_err-scaled_numerator.result c.from_residual-in_err-scaled_numerator.ensures.1 in
     let wide = c.in_err-scaled_numerator.ensures.wide in
     rw (p.1, p.2, wide.0, is)
     (inr (first_wide_numerator c.args.row.now c.args.m c.loop-i.i c.loop-i-test.true c.requires.least c.requires.stays c.loop-i.invariant.stay (rw is at wide.1)))

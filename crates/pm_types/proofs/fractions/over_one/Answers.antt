@@ -14,7 +14,7 @@ unreachable-requires c =
     c.in_default.ensures.wide.1 (rw (kept (entry entries c.loop-x.x-index) small) small)
 
 pub returns-in_err-push-clause-value : goal.returns-in_err-push-clause-value
-returns-in_err-push-clause-value c = IfOk-from_err c.from_residual.result _ c.from_residual.ensures.0
+returns-in_err-push-clause-value c = IfOk-from_err c.from_residual-in_err-push.result _ c.from_residual-in_err-push.ensures.0
 
 pub returns-in_err-push-clause-in_range : goal.returns-in_err-push-clause-in_range
 returns-in_err-push-clause-in_range c = c.as_slice-entries.ensures.in_range
