@@ -4,11 +4,13 @@ They say how far 128 bits go: points with mixed denominators, with decimals, wit
 several sizes and dimensions; half-spaces in a box; linear programs.
 """
 
+from dataclasses import replace
 from fractions import Fraction
 
 from families import Instance, Seeded, by_points, by_rows, distinct, maximum_of, unit
 
 FAMILY = "users"
+BEYOND = "beyond"
 SEEDS = range(1, 6)
 
 
@@ -98,6 +100,26 @@ def kinds_of_programs():
         kind = f"program of 20 half-spaces in 5 dimensions, denominators to {10**digits - 1}"
         yield kind, fraction(digits), 5, 20
     yield "program of 20 half-spaces in 5 dimensions, 3 places", decimal(3), 5, 20
+
+
+def kinds_beyond():
+    """Kinds whose answers have 128 bits, and whose numbers on the way have more."""
+    yield points_of, "10 points in space, denominators to 999", fraction(3), 3, 10
+    yield points_of, "50 points in space, denominators to 999", fraction(3), 3, 50
+    yield points_of, "30 points in 4 dimensions, denominators to 99", fraction(2), 4, 30
+    yield points_of, "50 points in 4 dimensions, 6 places", decimal(6), 4, 50
+    yield points_of, "50 points in 5 dimensions, to 10,000", whole(10000), 5, 50
+    yield points_of, "20 points in 8 dimensions, to 1,000", whole(1000), 8, 20
+    yield points_of, "16 points in 10 dimensions, to 1,000", whole(1000), 10, 16
+    yield programs_of, "program of 12 half-spaces in 7 dimensions, 3 places", decimal(3), 7, 12
+    yield programs_of, "program of 20 half-spaces in 5 dimensions, 3 places", decimal(3), 5, 20
+
+
+def beyond():
+    """Nine kinds that the wide rules are for."""
+    for make, *kind in kinds_beyond():
+        for it in make(*kind):
+            yield replace(it, family=BEYOND)
 
 
 def instances():
