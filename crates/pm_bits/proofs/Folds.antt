@@ -9,7 +9,7 @@ use Rattle.std.proofs.lemmas.Nat.{mod-mul-add}
 use Rattle.std.proofs.lemmas.Nat.Bits.{bit_at_and, bit_at_or, bit_at-lt, bit_at-zero}
 use Rattle.pm_bits.specs.Folds.{AreFolds, IsFold}
 use Rattle.pm_bits.specs.Sets.{has, common_count, IsSubset}
-use Rattle.pm_bits.specs.Table.{Table, OtherContains, row_at}
+use Rattle.pm_bits.specs.Table.{Table, Implies, OtherContains, row_at}
 use Rattle.pm_bits.specs.Words.{has_bit, AreFolded, IsWithin}
 use Rattle.pm_bits.proofs.Bits.{and_test, has_bit_at, has_bit_past, within_bit, within_from_bits}
 use Rattle.pm_bits.proofs.Counts.{count_by-add, count_by-agree, count_by-none, ones_of_word}
@@ -144,4 +144,18 @@ others_by_folds t folds s v i j P small short long lens f g o = (
       (k, inside, not_i, not_j, folds_within (row_at t k) s (get_or folds k 0) v (let m = lens k inside in omega arith) (omega arith) (f.each k inside) g e),
   λ h. let (k, inside, not_i, not_j, sub) = h in
       o.1 (k, (let m = f.as_many in omega arith), not_i, not_j, within_folds (row_at t k) s (get_or folds k 0) v small (f.each k inside) g sub),
+)
+
+-- and which implications hold in them
+pub implied_by_folds : (t : Table) (folds : List ℕ) (a b : List Bool) (v w end : ℕ) (P : Type 0) → v < 2 ^ 64 → w < 2 ^ 64 → t.row_len ≤ 64 → length a ≡ t.row_len → length b ≡ t.row_len → end ≤ length t.rows → ((k : ℕ) → k < length t.rows → length (row_at t k) ≡ t.row_len) → AreFolds t.rows folds → IsFold a v → IsFold b w
+    → (P ↔ ((k : ℕ) → k < end → IsWithin (get_or folds k 0) v → IsWithin (get_or folds k 0) w)) → P ↔ Implies t a b end
+implied_by_folds t folds a b v w end P small small' short long long' few lens f g g' o = (
+  λ p k l h.
+      let inside : k < length t.rows = omega (arith, l, few) in
+      folds_within (row_at t k) b (get_or folds k 0) w (let m = lens k inside in omega arith) (omega arith) (f.each k inside) g'
+      (o.0 p k l (within_folds (row_at t k) a (get_or folds k 0) v small (f.each k inside) g h)),
+  λ h. o.1 (λ k l e.
+      let inside : k < length t.rows = omega (arith, l, few) in
+      within_folds (row_at t k) b (get_or folds k 0) w small' (f.each k inside) g'
+      (h k l (folds_within (row_at t k) a (get_or folds k 0) v (let m = lens k inside in omega arith) (omega arith) (f.each k inside) g e))),
 )

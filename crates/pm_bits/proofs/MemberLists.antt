@@ -4,11 +4,12 @@ use Rattle.pm_bits.proofs.Counts.{range_with_len-add}
 use Rattle.pm_bits.proofs.Members.{has-bits_below, length-bits_below}
 use Rattle.pm_bits.specs.Sets.{has}
 use Rattle.pm_bits.specs.Words.{Holds, bits_below, has_bit}
-use Rattle.std.proofs.Common.{ap, arith, get_or, refl, subst, sym, ◌∙◌}
-use Rattle.std.proofs.lemmas.Bool.{eq-eqb, ne_eqb}
+use Rattle.std.proofs.Common.{ap, arith, bit_and, get_or, inl, inr, refl, subst, sym, ◌/◌, ◌^◌, ◌≢◌, ◌≤◌, ◌∙◌}
+use Rattle.std.proofs.lemmas.Bool.{cases_lt, eq-eqb}
 use Rattle.std.proofs.lemmas.List.Elements.{filter-append, filter_agree}
-use Rattle.std.proofs.lemmas.Nat.Bits.{bit_at-zero}
-use Rattle.std.specs.Int.{bit_at}
+use Rattle.std.proofs.lemmas.Nat.{shr-shr}
+use Rattle.std.proofs.lemmas.Nat.Bits.{bit_at-trailing_zeros, bit_at-zero, bit_at_above, shr_and_one}
+use Rattle.std.specs.Int.{bit_at, trailing_zeros, w64}
 use Rattle.std.specs.List.{filter, range_with_len}
 use Rattle.std.specs.Prelude.{Bool, List, [], cond, false, length, suc, true, zero, ℕ, ◌*◌, ◌+◌, ◌++◌, ◌-◌, ◌<◌, ◌==◌, ◌∷◌, ◌≡◌}
 
@@ -31,20 +32,51 @@ none_more p s (suc n) h =
     let e : s + suc n ≡ s + n + 1 = omega arith in
     ap (λ k. filter p (range_with_len 0 k)) e ∙ sym (without_next p (s + n) (filter p (range_with_len 0 (s + n))) (filter p (range_with_len 0 (s + n))) (h n (omega arith)) refl refl) ∙ none_more p s n (λ b l. h b (omega arith))
 
-pub empty_word : (words list : List ℕ) (k : ℕ) → get_or words k 0 ≡ 0 → list ≡ filter (has_bit words) (range_with_len 0 (k * 64)) → list ≡ filter (has_bit words) (range_with_len 0 ((k + 1) * 64))
-empty_word words list k z e =
-    let n : k * 64 + 64 ≡ (k + 1) * 64 = omega arith in
-    e ∙ sym (none_more (has_bit words) (k * 64) 64 (λ b l. has_bit_at words k b l ∙ ap (λ w. bit_at w b == 1) z ∙ ap (λ d. d == 1) (bit_at-zero b))) ∙ ap (λ j. filter (has_bit words) (range_with_len 0 j)) n
-
-pub with_bit : (words old new : List ℕ) (k b v : ℕ) → b < 64 → bit_at (get_or words k 0) b ≡ 1 → v ≡ k * 64 + b → new ≡ old ++ v ∷ [] → old ≡ filter (has_bit words) (range_with_len 0 (k * 64 + b)) → new ≡ filter (has_bit words) (range_with_len 0 (k * 64 + (b + 1)))
+-- ---- one word, whose bits from b on are left
+with_bit : (words old new : List ℕ) (k b v : ℕ) → b < 64 → bit_at (get_or words k 0) b ≡ 1 → v ≡ k * 64 + b → new ≡ old ++ v ∷ [] → old ≡ filter (has_bit words) (range_with_len 0 (k * 64 + b)) → new ≡ filter (has_bit words) (range_with_len 0 (v + 1))
 with_bit words old new k b v l t ev n e =
-    let a : k * 64 + b + 1 ≡ k * 64 + (b + 1) = omega arith in
-    with_next (has_bit words) (k * 64 + b) old new (has_bit_at words k b l ∙ eq-eqb (bit_at (get_or words k 0) b) 1 t) (n ∙ ap (λ x. old ++ x ∷ []) ev) e ∙ ap (λ j. filter (has_bit words) (range_with_len 0 j)) a
+    with_next (has_bit words) v old new (ap (has_bit words) ev ∙ has_bit_at words k b l ∙ eq-eqb (bit_at (get_or words k 0) b) 1 t) n (e ∙ ap (λ j. filter (has_bit words) (range_with_len 0 j)) (sym ev))
 
-pub without_bit : (words old new : List ℕ) (k b : ℕ) → b < 64 → (bit_at (get_or words k 0) b ≡ 1 → ⊥) → new ≡ old → old ≡ filter (has_bit words) (range_with_len 0 (k * 64 + b)) → new ≡ filter (has_bit words) (range_with_len 0 (k * 64 + (b + 1)))
-without_bit words old new k b l t n e =
-    let a : k * 64 + b + 1 ≡ k * 64 + (b + 1) = omega arith in
-    without_next (has_bit words) (k * 64 + b) old new (has_bit_at words k b l ∙ ne_eqb (bit_at (get_or words k 0) b) 1 t) n e ∙ ap (λ j. filter (has_bit words) (range_with_len 0 j)) a
+no_bits : (words : List ℕ) (k b n : ℕ) → b + n ≤ 64 → ((i : ℕ) → i < n → bit_at (get_or words k 0) (b + i) ≡ 0) → filter (has_bit words) (range_with_len 0 (k * 64 + b + n)) ≡ filter (has_bit words) (range_with_len 0 (k * 64 + b))
+no_bits words k b n l h =
+    none_more (has_bit words) (k * 64 + b) n (λ i m.
+    let place : k * 64 + b + i ≡ k * 64 + (b + i) = omega arith in
+    ap (has_bit words) place ∙ has_bit_at words k (b + i) (omega arith) ∙ ap (λ d. d == 1) (h i m))
+
+shifted_bit : (w b i : ℕ) → bit_at (w / 2 ^ b) i ≡ bit_at w (b + i)
+shifted_bit w b i = sym (shr_and_one (w / 2 ^ b) i) ∙ ap (λ d. bit_and d 1) (shr-shr w b i) ∙ shr_and_one w (b + i)
+
+module _ (words : List ℕ) (k b : ℕ) (small : get_or words k 0 < 2 ^ 64) (rest : ℕ) (left : rest ≡ get_or words k 0 / 2 ^ b) where
+  below_64 : (i : ℕ) → bit_at rest i ≡ 1 → b + i < 64
+  below_64 i t = elim (cases_lt (b + i) 64) [
+    | inl l ↦ l
+    | inr g ↦ absurd (let one = sym (shifted_bit (get_or words k 0) b i) ∙ ap (λ w. bit_at w i) (sym left) ∙ t in let none = bit_at_above (get_or words k 0) 64 (b + i) small (omega arith) in let no : 0 ≡ 1 = sym none ∙ one in cc)
+  ]
+
+  -- the next member of a word
+  module _ (some : rest ≢ 0) (fits : rest < 2 ^ 64) (s : ℕ) (se : s ≡ trailing_zeros w64 rest) where
+    lowest : (bit_at rest s ≡ 1) × ((i : ℕ) → i < s → bit_at rest i ≡ 0)
+    lowest = let w = bit_at-trailing_zeros w64 rest (omega arith) fits in (ap (λ i. bit_at rest i) se ∙ w.1, λ i l. w.2 i (omega arith))
+
+    pub next_below : b + s < 64
+    next_below = below_64 s lowest.0
+
+    pub next_member : (old new : List ℕ) (v : ℕ) → v ≡ k * 64 + b + s → new ≡ old ++ v ∷ [] → old ≡ filter (has_bit words) (range_with_len 0 (k * 64 + b)) → new ≡ filter (has_bit words) (range_with_len 0 (v + 1))
+    next_member old new v ev n e =
+        let at : (i : ℕ) → bit_at (get_or words k 0) (b + i) ≡ bit_at rest i = λ i. sym (shifted_bit (get_or words k 0) b i) ∙ ap (λ w. bit_at w i) (sym left) in
+        let skipped = no_bits words k b s (omega (arith, next_below)) (λ i l. at i ∙ lowest.1 i l) in
+        let place : k * 64 + b + s ≡ k * 64 + (b + s) = omega arith in
+        with_bit words old new k (b + s) v next_below (at s ∙ lowest.0) (ev ∙ place) n (e ∙ sym skipped ∙ ap (λ j. filter (has_bit words) (range_with_len 0 j)) place)
+
+    pub next_left : (v : ℕ) → v ≡ rest / 2 ^ s / 2 ^ 1 → v ≡ get_or words k 0 / 2 ^ (b + s + 1)
+    next_left v e = e ∙ ap (λ w. w / 2 ^ s / 2 ^ 1) left ∙ ap (λ w. w / 2 ^ 1) (shr-shr (get_or words k 0) b s) ∙ shr-shr (get_or words k 0) (b + s) 1
+
+  -- no member is left
+  pub none_left : rest ≡ 0 → b ≤ 64 → (list : List ℕ) → list ≡ filter (has_bit words) (range_with_len 0 (k * 64 + b)) → list ≡ filter (has_bit words) (range_with_len 0 ((k + 1) * 64))
+  none_left z l list e =
+      let zero_bits : (i : ℕ) → bit_at (get_or words k 0) (b + i) ≡ 0 = λ i. sym (shifted_bit (get_or words k 0) b i) ∙ ap (λ w. bit_at w i) (sym left ∙ z) ∙ bit_at-zero i in
+      let place : k * 64 + b + (64 - b) ≡ (k + 1) * 64 = omega arith in
+      e ∙ sym (no_bits words k b (64 - b) (omega arith) (λ i m. zero_bits i)) ∙ ap (λ j. filter (has_bit words) (range_with_len 0 j)) place
 
 pub members_of_row : (list words : List ℕ) (n : ℕ) → Holds words n → list ≡ filter (has_bit words) (range_with_len 0 (length words * 64)) → list ≡ filter (has (bits_below words n)) (range_with_len 0 (length (bits_below words n)))
 members_of_row list words n h e =

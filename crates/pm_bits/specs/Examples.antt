@@ -1,5 +1,6 @@
--- Small rows of bits: their members as lists, unions and intersections.
+-- Small rows of bits: their members as lists, unions and intersections, and which rows imply others.
 use Rattle.pm_bits.specs.Sets.{IsIntersection, IsUnion, members}
+use Rattle.pm_bits.specs.Table.{Implies, Table}
 use Rattle.std.specs.Prelude.{Bool, List, [], ◌∷◌, ◌≡◌, true, false}
 
 -- {0, 2} and {} below 3 and 2 as lists; a list that does not ascend is none
@@ -21,3 +22,15 @@ pub record UnionsAreRead : Type 0 where
   pub not_more : ¬ (IsIntersection (bits true true true) (bits true true false) (bits false true true))
   -- nothing is in the union of {} and {} but what is in one of them
   pub none : ¬ (IsUnion (bits true false false) (bits false false false) (bits false false false))
+
+-- the rows {0, 1}, {1} and {0, 2}
+abbrev pub three_rows : Table
+three_rows = record { row_len = 3; rows = bits true true false ∷ bits false true false ∷ bits true false true ∷ [] }
+
+-- in the first two rows 0 implies 1, and 1 does not imply 0; in all three 0 does not imply 1
+pub record ImplicationsAreRead : Type 0 where
+  pub first : Implies three_rows (bits true false false) (bits false true false) 2
+  pub not_turned : ¬ (Implies three_rows (bits false true false) (bits true false false) 2)
+  pub not_last : ¬ (Implies three_rows (bits true false false) (bits false true false) 3)
+  -- in no rows nothing implies everything
+  pub in_none : Implies three_rows (bits false false false) (bits true true true) 0

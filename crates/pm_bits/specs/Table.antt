@@ -15,3 +15,8 @@ row_at table k = slice_index_or table.rows k []
 abbrev pub OtherContains : Table → List Bool → ℕ → ℕ → Type 0
 OtherContains table s i j = (k : ℕ) × (k < length table.rows) × (k ≢ i) × (k ≢ j)
     × IsSubset s (row_at table k)
+
+-- each of the first rows, as many as `end`, that contains s contains t: an implication (Ganter and Wille, Formal Concept
+-- Analysis, section 2.3)
+abbrev pub Implies : Table → List Bool → List Bool → ℕ → Type 0
+Implies table s t end = (k : ℕ) → k < end → IsSubset s (row_at table k) → IsSubset t (row_at table k)

@@ -5,7 +5,7 @@
 //! (`has`), and the list's length is the row's. The words and lanes below that are seen nowhere else.
 #![tactic(auto)]
 
-ghost use Rattle.pm_bits.specs.Examples.{MembersAreRead, UnionsAreRead};
+ghost use Rattle.pm_bits.specs.Examples.{ImplicationsAreRead, MembersAreRead, UnionsAreRead};
 
 mod order;
 mod row;
@@ -23,4 +23,9 @@ pub fn example_members()
 /// The union and the intersection of small rows.
 pub fn example_unions()
     ensures { UnionsAreRead }
+{}
+
+/// Which members imply others in three small rows.
+pub fn example_implications()
+    ensures { ImplicationsAreRead }
 {}

@@ -3,7 +3,7 @@ ghost use Rattle.std.specs.Prelude.{◌≡◌, ◌≢◌, ℕ, ◌<◌, ◌≤�
 ghost use Rattle.std.specs.List.{swap};
 ghost use Rattle.pm_bits.specs.Folds.{IsFold};
 ghost use Rattle.pm_bits.specs.Sets.{has, IsSubset, common_count};
-ghost use Rattle.pm_bits.specs.Table.{row_at, OtherContains};
+ghost use Rattle.pm_bits.specs.Table.{row_at, Implies, OtherContains};
 
 use crate::{BitRow, words};
 use std::alloc::{AllocError, Global};
@@ -224,6 +224,51 @@ impl BitTable {
             self.other_fold_contains(s, fold, i, j)
         } else {
             self.other_row_contains(s, fold, i, j)
+        }
+    }
+
+    /// Whether each of the first `end` rows that contains `s` contains `t`, where these are their folds: the folds are
+    /// the rows.
+    fn fold_implies(&self, s: &BitRow, t: &BitRow, s_fold: u64, t_fold: u64, end: usize) -> bool
+        requires short { self.now.row_len ≤ 64 }
+        requires end { end ≤ length self.now.rows }
+        requires s_len { length s.now ≡ self.now.row_len }
+        requires t_len { length t.now ≡ self.now.row_len }
+        requires s_fold { IsFold s.now s_fold }
+        requires t_fold { IsFold t.now t_fold }
+        ensures { IsTrue result ↔ Implies self.now s.now t.now end }
+    {
+        words::implies(&self.folds, s_fold, t_fold, end)
+    }
+
+    /// Whether each of the first `end` rows that contains `s`, whose fold this is, contains `t`.
+    fn row_implies(&self, s: &BitRow, t: &BitRow, fold: u64, end: usize) -> bool
+        requires end { end ≤ length self.now.rows }
+        requires s_len { length s.now ≡ self.now.row_len }
+        requires t_len { length t.now ≡ self.now.row_len }
+        requires fold { IsFold s.now fold }
+        ensures { IsTrue result ↔ Implies self.now s.now t.now end }
+    {
+        for k in 0..end {
+            if self.row_contains(s, fold, k) && !self.rows[k].contains(t) {
+                return false;
+            }
+        }
+        true
+    }
+
+    /// Whether each of the first `end` rows that contains `s` contains `t`. Rows of at most 64 numbers are compared by
+    /// their folds alone; of longer ones those are opened whose folds have what that of `s` has.
+    pub fn implies(&self, s: &BitRow, t: &BitRow, end: usize) -> bool
+        requires end { end ≤ length self.now.rows }
+        requires s_len { length s.now ≡ self.now.row_len }
+        requires t_len { length t.now ≡ self.now.row_len }
+        ensures { IsTrue result ↔ Implies self.now s.now t.now end }
+    {
+        if self.len <= 64 {
+            self.fold_implies(s, t, s.fold(), t.fold(), end)
+        } else {
+            self.row_implies(s, t, s.fold(), end)
         }
     }
 }

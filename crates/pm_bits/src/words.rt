@@ -1,6 +1,7 @@
 // The kernels: loops over the words that hold a row's bits. Whole chunks of four words go by vectors of four
 // lanes, and the words that are left go one by one.
-ghost use Rattle.std.specs.Prelude.{◌≡◌, ℕ, ◌+◌, ◌*◌, ◌/◌, ◌<◌, ◌≤◌, ◌↔◌, ◌&&◌, ◌||◌, IsTrue, IfOk, replicate, length, bit_and, bit_or, true, ◌≢◌, ◌^◌};
+ghost use Rattle.std.specs.Prelude.{◌≡◌, ℕ, ◌+◌, ◌*◌, ◌/◌, ◌<◌, ◌≤◌, ◌↔◌, ◌&&◌, ◌||◌, IsTrue, IfOk, OnOk, replicate, length, bit_and, bit_or, true, ◌≢◌, ◌^◌};
+ghost use Rattle.std.specs.List.{filter, range_with_len};
 ghost use Rattle.std.specs.Ordering.{MatchOrdering};
 ghost use Rattle.std.specs.Simd.Lanes.{chunk, zip2, put_chunk};
 ghost use Rattle.std.specs.Prelude.{slice_index};
@@ -216,22 +217,33 @@ pub(crate) fn join(a: &[u64], b: &[u64], out: &mut [u64])
     join_rest(a, b, out, a.len() / LANES * LANES);
 }
 
-/// The numbers whose bits are set, ascending. A word without a bit is passed over.
+// Puts the numbers whose bits are set in the word at k at the end of the list of those before.
+fn push_members(words: &[u64], k: usize, list: &mut Vec<u32>) -> Result<(), AllocError>
+    requires place { k < length words.now }
+    requires few { length words.now ≤ 2 ^ 26 }
+    requires before { list.old.items ≡ filter (has_bit words.now) (range_with_len 0 (k * 64)) }
+    ensures { OnOk result (list.new.items ≡ filter (has_bit words.now) (range_with_len 0 ((k + 1) * 64))) }
+{
+    let mut rest = words[k];
+    let mut next = k * 64;
+    while rest != 0 {
+        let skipped = rest.trailing_zeros();
+        let member = next + skipped as usize;
+        list.push(member as u32)?;
+        next = member + 1;
+        rest = (rest >> skipped) >> 1;
+    }
+    Ok(())
+}
+
+/// The numbers whose bits are set, ascending, in a list of just their length.
 pub(crate) fn members(alloc: Global, words: &[u64]) -> Result<Vec<u32>, AllocError>
     requires { length words.now ≤ 2 ^ 26 }
     ensures { IfOk result (λ list. list.items ≡ set_bits words.now) }
 {
-    let mut list = Vec::new(alloc);
+    let mut list = Vec::with_capacity(alloc, count(words))?;
     for k in 0..words.len() {
-        let word = words[k];
-        if word == 0 {
-            continue;
-        }
-        for bit in 0..64 {
-            if (word >> bit) & 1 == 1 {
-                list.push((k * 64 + bit) as u32)?;
-            }
-        }
+        push_members(words, k, &mut list)?;
     }
     Ok(list)
 }
@@ -301,6 +313,20 @@ pub(crate) fn other_contains(words: &[u64], s: u64, i: usize, j: usize) -> bool
         k = next_containing(words, s, k + 1);
     }
     false
+}
+
+/// Whether each of the first `end` words that has each bit of s has each bit of t.
+pub(crate) fn implies(words: &[u64], s: u64, t: u64, end: usize) -> bool
+    requires { end ≤ length words.now }
+    ensures { IsTrue result
+        ↔ ((k : ℕ) → k < end → IsWithin (slice_index words.now k) s → IsWithin (slice_index words.now k) t) }
+{
+    for k in 0..end {
+        if words[k] & s == s && words[k] & t != t {
+            return false;
+        }
+    }
+    true
 }
 
 // How two words compare by their lowest different bit: the word that has it comes first.

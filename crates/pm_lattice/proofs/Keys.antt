@@ -1,20 +1,23 @@
 -- Keys in the order of rows of bits: what an insert leaves, and that a strict part of a face comes after it.
-use Rattle.pm_vector.proofs.Lists.{Among, Contains_among, among_Contains, among_append, here, there}
+use Rattle.pm_vector.proofs.Lists.{Among, Contains_among, among_Contains, here, there}
 use Rattle.pm_bits.proofs.Differences.{Less-from_first}
 use Rattle.pm_bits.specs.Laws.{row_cmp_total, rows_tie}
 use Rattle.pm_bits.specs.Sets.{HasFirstDifference, first_difference_cmp, has, row_cmp}
 use Rattle.pm_lattice.specs.Closures.{IsRowBefore}
-use Rattle.pm_lattice.specs.Parts.{Covers, IsPartOf}
+use Rattle.pm_lattice.specs.Parts.{IsPartOf}
 use Rattle.pm_lattice.proofs.Chains.{and_right, true_or_not}
 use Rattle.pm_lattice.proofs.Parts.{part_strict}
 use Rattle.std.proofs.Common.{ap, arith, inl, inr, refl, subst, sym, ◌∙◌}
 use Rattle.std.proofs.lemmas.Cmp.{nat_cmp_total, tied_itself}
+use Rattle.std.specs.BTreeMap.{insert_entry}
 use Rattle.std.specs.BTreeSet.{insert_key}
+use Rattle.std.proofs.lemmas.List.Elements.{All-cons, All-head, All-tail}
 use Rattle.std.specs.Cmp.{booleans_Decides}
 use Rattle.std.specs.Cmp.Lexicographic.{pointwise_decides}
-use Rattle.std.specs.List.{Contains}
+use Rattle.std.specs.List.{All, Contains}
+use Rattle.std.specs.Map.{keys_of}
 use Rattle.std.specs.Ordering.{is_eq, match_ordering}
-use Rattle.std.specs.Prelude.{Bool, IsTrue, List, [], false, length, not, suc, true, zero, ℕ, ◌++◌, ◌<◌, ◌∷◌, ◌≡◌, ◌⊎◌}
+use Rattle.std.specs.Prelude.{Bool, IsTrue, List, [], false, length, not, suc, true, zero, ℕ, ◌<◌, ◌∷◌, ◌≡◌, ◌⊎◌}
 use Rattle.std.specs.declared.cmp.Ordering.{Ordering}
 use Rattle.std.specs.declared.cmp.Ordering.TheVariants.{Less, Equal, Greater}
 
@@ -66,22 +69,33 @@ inserted_old old new x e k c = subst (λ ks. Contains ks k) (sym e) (Contains_am
 pub inserted_from : (old new : List (List Bool)) (x : List Bool) → new ≡ insert_key row_cmp old x → (k : List Bool) → Contains new k → Contains old k ⊎ (k ≡ x)
 inserted_from old new x e k c = elim (either_in x old k (among_Contains (insert_key row_cmp old x) (subst (λ ks. Contains ks k) e c))) [ inl i ↦ inl (Contains_among i) | inr s ↦ inr s ]
 
--- ---- a turn of the loop that opens parts
-pub opened_added : (rows : List (List Bool)) (f : List Bool) (start old new : List (List Bool)) (x : List Bool) → new ≡ insert_key row_cmp old x → IsPartOf rows f x → ((k : List Bool) → Contains old k → Contains start k ⊎ IsPartOf rows f k) → (k : List Bool) → Contains new k → Contains start k ⊎ IsPartOf rows f k
-opened_added rows f start old new x e p h k c = elim (inserted_from old new x e k c) [ inl i ↦ h k i | inr s ↦ inr (subst (λ y. IsPartOf rows f y) (sym s) p) ]
+-- ---- entries
+entry_at : (o : Ordering) (k : List Bool) (v : ℕ) (e : List Bool × ℕ) (es rest : List (List Bool × ℕ)) → keys_of rest ≡ insert_key row_cmp (keys_of es) k → keys_of (match_ordering o ((k, v) ∷ e ∷ es) ((e.0, v) ∷ es) (e ∷ rest)) ≡ match_ordering o (k ∷ e.0 ∷ keys_of es) (e.0 ∷ keys_of es) (e.0 ∷ insert_key row_cmp (keys_of es) k)
+entry_at Less k v e es rest h = refl
+entry_at Equal k v e es rest h = refl
+entry_at Greater k v e es rest h = ap (λ ks. e.0 ∷ ks) h
 
-pub opened_all : (all old_parts parts old new : List (List Bool)) (x : List Bool) → new ≡ insert_key row_cmp old x → old_parts ≡ parts ++ x ∷ [] → ((k : List Bool) → Contains all k → Contains old_parts k ⊎ Contains old k) → (k : List Bool) → Contains all k → Contains parts k ⊎ Contains new k
-opened_all all old_parts parts old new x e s h k c = elim (h k c) [
-  | inr i ↦ inr (inserted_old old new x e k i)
-  | inl i ↦ elim (among_append parts (x ∷ []) (among_Contains (parts ++ x ∷ []) (subst (λ ps. Contains ps k) s i))) [
-    | inl j ↦ inl (Contains_among j)
-    | inr j ↦ inr (subst (λ y. Contains new y) (sym (only k j)) (inserted_new old new x e))
-  ]
-]
-  where
-    only : (k : List Bool) → Among k (x ∷ []) → k ≡ x
-    only k here = refl
-    only k (there i) = elim i [ ]
+keys_with : (k : List Bool) (v : ℕ) (es : List (List Bool × ℕ)) → keys_of (insert_entry row_cmp es k v) ≡ insert_key row_cmp (keys_of es) k
+keys_with k v [] = refl
+keys_with k v (e ∷ es) = entry_at (row_cmp k e.0) k v e es (insert_entry row_cmp es k v) (keys_with k v es)
+
+-- the keys after an entry is put in
+pub keys_inserted : (old new : List (List Bool × ℕ)) (k : List Bool) (v : ℕ) → new ≡ insert_entry row_cmp old k v → keys_of new ≡ insert_key row_cmp (keys_of old) k
+keys_inserted old new k v e = ap keys_of e ∙ keys_with k v old
+
+module _ (P : List Bool → ℕ → Type 0) (k : List Bool) (v : ℕ) (p : P k v) where
+  entries_at : (o : Ordering) (e : List Bool × ℕ) (es rest : List (List Bool × ℕ)) → row_cmp k e.0 ≡ o → All (λ x. P x.0 x.1) (e ∷ es) → All (λ x. P x.0 x.1) rest → All (λ x. P x.0 x.1) (match_ordering o ((k, v) ∷ e ∷ es) ((e.0, v) ∷ es) (e ∷ rest))
+  entries_at Less e es rest c a b = All-cons (λ x. P x.0 x.1) (k, v) (e ∷ es) p a
+  entries_at Equal e es rest c a b = All-cons (λ x. P x.0 x.1) (e.0, v) es (subst (λ y. P y v) (equal_rows k e.0 c) p) (All-tail (λ x. P x.0 x.1) e es a)
+  entries_at Greater e es rest c a b = All-cons (λ x. P x.0 x.1) e rest (All-head (λ x. P x.0 x.1) e es a) b
+
+  all_with : (es : List (List Bool × ℕ)) → All (λ x. P x.0 x.1) es → All (λ x. P x.0 x.1) (insert_entry row_cmp es k v)
+  all_with [] a = All-cons (λ x. P x.0 x.1) (k, v) [] p a
+  all_with (e ∷ es) a = entries_at (row_cmp k e.0) e es (insert_entry row_cmp es k v) refl a (all_with es (All-tail (λ x. P x.0 x.1) e es a))
+
+-- what is true of each entry, after one is put in of which it is true
+pub entries_inserted : (P : List Bool → ℕ → Type 0) (old new : List (List Bool × ℕ)) (k : List Bool) (v : ℕ) → new ≡ insert_entry row_cmp old k v → P k v → All (λ x. P x.0 x.1) old → All (λ x. P x.0 x.1) new
+entries_inserted P old new k v e p a = subst (λ es. All (λ x. P x.0 x.1) es) (sym e) (all_with P k v p old a)
 
 -- ---- the order
 -- the least place at which a test fails, below a place at which it does
@@ -137,7 +151,3 @@ part_after m rows f c e p =
 
 pub before_trans : (x y z : List Bool) → IsRowBefore x y → IsRowBefore y z → IsRowBefore x z
 before_trans x y z a b = row_cmp_total.trans x y z a b
-
-pub all_opened : (m : ℕ) (rows : List (List Bool)) (f : List Bool) (all parts keys : List (List Bool)) → length parts ≡ 0 → ((k : List Bool) → Contains all k → Contains parts k ⊎ Contains keys k) → Covers m rows all f → Covers m rows keys f
-all_opened m rows f all parts keys e h v j o =
-    let w = v j o in (w.0, elim (h w.0 w.1) [ inl c ↦ absurd (let l = c.1 in omega arith) | inr c ↦ c ], w.2)

@@ -4,6 +4,7 @@ pub mod Subsets
 pub mod Reached
 pub mod Parts
 pub mod Keys
+pub mod Opening
 pub mod Closing
 pub mod Ranking
 pub mod Places

@@ -2,8 +2,8 @@
 use Rattle.pm_bits.specs.Sets.{IsSubset, has}
 use Rattle.pm_bits.specs.Table.{Table}
 use Rattle.pm_geom.specs.FaceCounts.{SamePlaces}
-use Rattle.std.specs.List.{Contains, slice_index_or}
-use Rattle.std.specs.Prelude.{ℕ, ◌≡◌, ◌<◌, ◌&&◌, ◌⊎◌, Bool, IsTrue, List, [], length}
+use Rattle.std.specs.List.{All, Contains, slice_index_or}
+use Rattle.std.specs.Prelude.{ℕ, ◌≡◌, ◌+◌, ◌<◌, ◌≤◌, ◌&&◌, ◌⊎◌, Bool, IsTrue, List, [], length}
 
 -- each place of f below m is one of g
 abbrev pub IsIn : ℕ → (ℕ → Bool) → (ℕ → Bool) → Type 0
@@ -48,8 +48,20 @@ pub record Opens (m : ℕ) (rows : List (List Bool)) (f : List Bool) (old new : 
   pub covers : Covers m rows new f
 
 -- the same over the rows of a table
-abbrev pub HasParts : Table → List Bool → List (List Bool) → Type 0
-HasParts t f faces = Covers t.row_len t.rows faces f
-
 abbrev pub OpensParts : Table → List Bool → List (List Bool) → List (List Bool) → Type 0
 OpensParts t f old new = Opens t.row_len t.rows f old new
+
+-- no row before the place opens a part of f
+abbrev pub OpensFrom : Table → List Bool → ℕ → Type 0
+OpensFrom t f from = (j : ℕ) → IsOpening t.row_len t.rows f j → from ≤ j
+
+-- beside each open face stands a place before which no row opens a part of it
+abbrev pub AreOpen : Table → List (List Bool × ℕ) → Type 0
+AreOpen t entries = All (λ e. OpensFrom t e.0 e.1) entries
+
+-- c is what the face f shares with the row at j, which does not contain it, and no row up to this one opens a part
+-- of c
+pub record HasOpened (t : Table) (f : List Bool) (j : ℕ) (c : List Bool) : Type 0 where
+  pub part : IsPartOf t.rows f c
+  pub shared : SamePlaces t.row_len (both (has f) (has (row_of t.rows j))) (has c)
+  pub later : OpensFrom t c (j + 1)

@@ -1,15 +1,14 @@
 // All intersections of rows of bits.
-ghost use Rattle.pm_bits.specs.Sets.{IsSubset, has};
-ghost use Rattle.pm_bits.specs.Table.{row_at};
+ghost use Rattle.pm_bits.specs.Sets.{has};
 ghost use Rattle.pm_lattice.specs.Closures.{IsClosureOf};
-ghost use Rattle.pm_lattice.specs.Parts.{HasParts, IsPartOf, OpensParts};
-ghost use Rattle.std.specs.List.{All, Any, Contains};
-ghost use Rattle.std.specs.Prelude.{ℕ, List, Bool, ◌<◌, ◌≡◌, ◌↔◌, IfOk, IsTrue, OnOk, length};
+ghost use Rattle.pm_lattice.specs.Parts.{AreOpen, HasOpened, IsOpening, OpensFrom, OpensParts};
+ghost use Rattle.std.specs.BTreeMap.{keys};
+ghost use Rattle.std.specs.Prelude.{ℕ, ◌<◌, ◌≡◌, IfOk, IsTrue, OnOk, length};
 
 use pm_bits::{BitRow, BitTable};
 use pm_limits::MOST_FACES;
 use std::alloc::{AllocError, Global};
-use std::collections::BTreeSet;
+use std::collections::BTreeMap;
 use std::mem;
 
 /// All intersections of rows with the set of all places, each once and in the order of rows of bits;
@@ -32,92 +31,65 @@ pub(crate) fn full_row(alloc: Global, len: usize) -> Result<BitRow, AllocError>
     Ok(row)
 }
 
-// Whether a row at one of the places contains s.
-fn one_contains(rows: &BitTable, places: &[usize], s: &BitRow) -> bool
-    requires places { All (λ k. k < length rows.now.rows) places.now }
-    requires len { length s.now ≡ rows.now.row_len }
-    ensures { IsTrue result ↔ Any (λ k. IsSubset s.now (row_at rows.now k)) places.now }
-{
-    for place in places {
-        if rows.row(*place).contains(s) {
-            return true;
-        }
-    }
-    false
-}
-
-// The parts of a face that rows open: what it shares with a row that does not contain it. A row opens
-// nothing where an earlier row that does not contain the face has what it shares, or where the earlier
-// rows that contain the face share more than the face: so each face is opened from one face alone, by
-// one row. `whole` is the set of all places.
-fn parts_of(
-    alloc: Global,
-    rows: &BitTable,
-    whole: &BitRow,
-    face: &BitRow,
-) -> Result<Vec<BitRow>, AllocError>
+// Whether the row at a place opens a part of a face, which `part` becomes: what they share, where the row does not
+// contain the face, and no earlier row that does not contain the face has what they share. No row up to this place
+// opens a part of the part; so each face is opened from one face alone, by one row (Kuznetsov, 1993: Close-by-One).
+fn opens(rows: &BitTable, face: &BitRow, place: usize, part: &mut BitRow) -> bool
+    requires place { place < length rows.now.rows }
     requires face_len { length face.now ≡ rows.now.row_len }
-    requires whole_len { length whole.now ≡ rows.now.row_len }
-    ensures each { IfOk result (λ opened. All (IsPartOf rows.now.rows face.now) opened.items) }
-    ensures covers { IfOk result (λ opened. HasParts rows.now face.now opened.items) }
+    requires part_len { length part.old ≡ rows.now.row_len }
+    ensures part_len { length part.new ≡ rows.now.row_len }
+    ensures opened { IsTrue result → HasOpened rows.now face.now place part.new }
+    ensures passed { IsOpening rows.now.row_len rows.now.rows face.now place → IsTrue result }
 {
-    let mut opened = Vec::new(alloc);
-    let mut outside = Vec::new(alloc);
-    let mut hull = BitRow::with_len(alloc, face.len())?;
-    whole.meet_into(whole, &mut hull);
-    let mut meet = BitRow::with_len(alloc, face.len())?;
-    for i in 0..rows.len() {
-        let row = rows.row(i);
-        if row.contains(face) {
-            row.meet_into(&hull, &mut meet);
-            mem::swap(&mut hull, &mut meet);
-            continue;
-        }
-        if face.contains(&hull) {
-            row.meet_into(face, &mut meet);
-            if !one_contains(rows, &outside, &meet) {
-                let next = BitRow::with_len(alloc, face.len())?;
-                opened.push(mem::replace(&mut meet, next))?;
-            }
-        }
-        outside.push(i)?;
+    let row = rows.row(place);
+    if row.contains(face) {
+        return false;
     }
-    Ok(opened)
+    row.meet_into(face, part);
+    rows.implies(part, face, place)
 }
 
-// Opens the parts of a face.
+// Opens the parts of a face, of which no row before `from` opens one. `part` is a row to work in.
 fn open_parts(
     alloc: Global,
     rows: &BitTable,
-    whole: &BitRow,
     face: &BitRow,
-    pending: &mut BTreeSet<BitRow>,
+    from: usize,
+    part: &mut BitRow,
+    pending: &mut BTreeMap<BitRow, usize>,
 ) -> Result<(), AllocError>
     requires face_len { length face.now ≡ rows.now.row_len }
-    requires whole_len { length whole.now ≡ rows.now.row_len }
-    ensures { OnOk result (OpensParts rows.now face.now pending.old.keys pending.new.keys) }
+    requires part_len { length part.old ≡ rows.now.row_len }
+    requires from { OpensFrom rows.now face.now from }
+    requires open { AreOpen rows.now pending.old.entries }
+    ensures part_len { length part.new ≡ rows.now.row_len }
+    ensures open { OnOk result (AreOpen rows.now pending.new.entries) }
+    ensures opens { OnOk result (OpensParts rows.now face.now (keys pending.old) (keys pending.new)) }
 {
-    let mut parts = parts_of(alloc, rows, whole, face)?;
-    while let Some(part) = parts.pop() {
-        pending.insert(part)?;
+    for place in from..rows.len() {
+        if opens(rows, face, place, part) {
+            let next = BitRow::with_len(alloc, face.len())?;
+            pending.insert(mem::replace(part, next), place + 1)?;
+        }
     }
     Ok(())
 }
 
 /// Closes the rows of a table under intersection: from the set of all places on, the first open face is
-/// settled and its parts are opened.
+/// settled and its parts are opened. Beside an open face stands the place of the first row that is tried on it.
 pub(crate) fn close(alloc: Global, rows: &BitTable) -> Result<Closure, AllocError>
     ensures { IfOk result (IsClosureOf rows.now) }
 {
-    let mut pending = BTreeSet::new(alloc);
-    let whole = full_row(alloc, rows.row_len())?;
-    pending.insert(full_row(alloc, rows.row_len())?)?;
+    let mut pending = BTreeMap::new(alloc);
+    pending.insert(full_row(alloc, rows.row_len())?, 0)?;
+    let mut part = BitRow::with_len(alloc, rows.row_len())?;
     let mut faces = Vec::new(alloc);
     for _turn in 0..MOST_FACES + 1 {
-        let Some(face) = pending.pop_first() else {
+        let Some((face, from)) = pending.pop_first() else {
             return Ok(Closure::All(faces));
         };
-        open_parts(alloc, rows, &whole, &face, &mut pending)?;
+        open_parts(alloc, rows, &face, from, &mut part, &mut pending)?;
         faces.push(face)?;
     }
     Ok(Closure::Many(faces))

@@ -2,33 +2,25 @@
 ghost use Rattle.pm_bits.specs.Sets.{has, members};
 ghost use Rattle.pm_geom.specs.Graphs.{holds, sets_of};
 ghost use Rattle.pm_lattice.specs.Closures.{bit_sets};
-ghost use Rattle.pm_lattice.specs.Ranks.{level_of, levels_to};
+ghost use Rattle.pm_lattice.specs.Ranks.{levels_to};
 ghost use Rattle.pm_types.specs.Lists.{lists_of};
 ghost use Rattle.std.specs.List.{All};
-ghost use Rattle.std.specs.Prelude.{ℕ, ◌^◌, ◌<◌, ◌≡◌, IfOk, length, map};
+ghost use Rattle.std.specs.Prelude.{ℕ, ◌+◌, ◌^◌, ◌<◌, ◌≡◌, IfOk, [], length, map};
 
 use pm_bits::{BitRow, BitTable};
 use pm_types::Sets;
 use std::alloc::{AllocError, Global};
 
-// The faces of one rank, as lists of their places.
-fn faces_of_rank(
-    alloc: Global,
-    faces: &[BitRow],
-    ranks: &[usize],
-    rank: usize,
-) -> Result<Vec<Vec<u32>>, AllocError>
-    requires as_many { length ranks.now ≡ length faces.now }
-    requires few { All (λ f. length f < 2 ^ 32) faces.now }
-    ensures { IfOk result (λ level. lists_of level ≡ level_of rank faces.now ranks.now) }
+// So many ranks without a face.
+fn empty_levels(alloc: Global, count: usize) -> Result<Vec<Vec<Vec<u32>>>, AllocError>
+    ensures len { IfOk result (λ levels. length levels.items ≡ count) }
+    ensures empty { IfOk result (λ levels. All (λ level. lists_of level ≡ []) levels.items) }
 {
-    let mut level = Vec::new(alloc);
-    for (place, face) in faces.iter().enumerate() {
-        if ranks[place] == rank {
-            level.push(face.members(alloc)?)?;
-        }
+    let mut levels = Vec::with_capacity(alloc, count)?;
+    for _rank in 0..count {
+        levels.push(Vec::new(alloc))?;
     }
-    Ok(level)
+    Ok(levels)
 }
 
 /// The faces of each rank up to the top one, as lists of their places.
@@ -43,9 +35,12 @@ pub(crate) fn by_rank(
     requires top { top < 2 ^ 32 }
     ensures { IfOk result (λ levels. map lists_of levels.items ≡ levels_to top faces.now ranks.now) }
 {
-    let mut levels = Vec::new(alloc);
-    for rank in 0..top + 1 {
-        levels.push(faces_of_rank(alloc, faces, ranks, rank)?)?;
+    let mut levels = empty_levels(alloc, top + 1)?;
+    for (place, face) in faces.iter().enumerate() {
+        let rank = ranks[place];
+        if rank <= top {
+            levels[rank].push(face.members(alloc)?)?;
+        }
     }
     Ok(levels)
 }

@@ -1,26 +1,33 @@
-use Rattle.pm_lattice.proofs.Keys.{all_opened, inserted_old, opened_added, opened_all}
+-- A turn puts in the part that the row opens, if it opens one.
+use Rattle.pm_lattice.proofs.Opening.{Opening, opening_end, opening_more, opening_passed, opening_start}
 use Rattle.pm_lattice.proofs.closure.open_parts.Goals as goal
-use Rattle.pm_lattice.specs.Parts.{IsPartOf}
-use Rattle.std.proofs.Common.{Some, arith, inl, inr, length, vec_len, ◌≡◌}
-use Rattle.std.proofs.lemmas.Bool.{cases_lt}
-use Rattle.std.proofs.lemmas.List.Elements.{All-pop}
+use Rattle.pm_lattice.proofs.closure.open_parts.Goals.{then-opens+in_ok-next+in_ok-insert, else-opens}
+use Rattle.std.proofs.Common.{ap, arith, length, refl, subst, sym, true, ◌+◌, ◌∙◌, ◌≡◌}
+use Rattle.std.specs.BTreeMap.{keys}
 
-pub loop-part-preserved : goal.loop-part-preserved
-loop-part-preserved c =
-    let split = All-pop (IsPartOf c.args.rows.now.rows c.args.face.now) c.loop-part.parts.items c.pop.new.self.items (Some c.in-Some.part) c.in-Some.ensures.items c.loop-part.invariant.each in
-    record {
-      each = split.0;
-      kept = λ k i. inserted_old c.loop-part.pending.keys c.insert.new.self.keys c.in-Some.part c.in_ok-insert.ensures.keys k (c.loop-part.invariant.kept k i);
-      added = opened_added c.args.rows.now.rows c.args.face.now c.args.pending.now.keys c.loop-part.pending.keys c.insert.new.self.keys c.in-Some.part c.in_ok-insert.ensures.keys split.1 c.loop-part.invariant.added;
-      all = opened_all c.in_ok-parts.parts.items c.loop-part.parts.items c.pop.new.self.items c.loop-part.pending.keys c.insert.new.self.keys c.in-Some.part c.in_ok-insert.ensures.keys c.in-Some.ensures.items c.loop-part.invariant.all;
-    }
+pub loop-place-init : goal.loop-place-init
+loop-place-init c = record {
+  part_len = c.requires.part_len;
+  opening = opening_start c.args.rows.now c.args.face.now c.args.pending.now.entries c.args.from c.requires.from c.requires.open;
+}
 
-pub returns : goal.returns
-returns c =
-    let v = c.in_default.ensures.variant in
-    let none : length c.loop-part.parts.items ≡ 0 = elim (cases_lt 0 (vec_len c.loop-part.parts)) [ inl l ↦ absurd (let e = v.1 l in cc) | inr l ↦ (let k = c.loop-part.parts.ok in omega arith) ] in
-    record {
-      kept = c.loop-part.invariant.kept;
-      added = c.loop-part.invariant.added;
-      covers = all_opened c.args.rows.now.row_len c.args.rows.now.rows c.args.face.now c.in_ok-parts.parts.items c.loop-part.parts.items c.loop-part.pending.keys none c.loop-part.invariant.all c.in_ok-parts.ensures.covers;
-    }
+pub loop-place-preserved : goal.loop-place-preserved
+loop-place-preserved c =
+    let old = c.loop-place.pending.entries in
+    elim c.if-opens.branch [
+      | then-opens+in_ok-next+in_ok-insert w ↦ record {
+        part_len = ap length w.part-is ∙ ap length w.replace.ensures.after ∙ w.in_ok-next.ensures.len ∙ w.len.ensures ∙ c.requires.face_len;
+        opening = opening_more c.args.rows.now c.args.face.now (keys c.args.pending.now) old c.loop-place.place c.loop-place.invariant.opening
+            c.opens.new.part c.if-opens.pending.entries (c.opens.ensures.opened w.if-opens.true)
+            (ap (λ p. p.entries) w.pending-is ∙ (rw w.replace.ensures.value at w.in_ok-insert.ensures.entries));
+      }
+      | else-opens w ↦ record {
+        part_len = ap length w.part-is ∙ c.opens.ensures.part_len;
+        opening = subst (λ p. Opening c.args.rows.now c.args.face.now (keys c.args.pending.now) p.entries (c.loop-place.place + 1)) (sym w.pending-is)
+            (opening_passed c.args.rows.now c.args.face.now (keys c.args.pending.now) old c.loop-place.place c.loop-place.invariant.opening
+            (λ o. let t : c.opens.result ≡ true = c.opens.ensures.passed o in let f = w.if-opens.false in cc));
+      }
+    ]
+
+pub returns-clause-opens : goal.returns-clause-opens
+returns-clause-opens c = opening_end c.args.rows.now c.args.face.now (keys c.args.pending.now) c.loop-place.pending.entries c.loop-place.place (omega (arith, c.len-place-end.ensures)) c.loop-place.invariant.opening

@@ -1,15 +1,10 @@
+use Rattle.pm_lattice.proofs.Opening.{Opening}
 use Rattle.pm_lattice.proofs.closure.open_parts.Given as goal
-use Rattle.pm_lattice.specs.Parts.{IsPartOf}
-use Rattle.std.proofs.Common.{Bool, List, vec_len, ◌⊎◌}
-use Rattle.std.specs.List.{All, Contains}
+use Rattle.std.proofs.Common.{length, ◌≡◌}
+use Rattle.std.specs.BTreeMap.{keys}
 
-abbrev pub invariant-loop-part : goal.invariant-loop-part
-invariant-loop-part l = record {
-  each : All (IsPartOf l.rows.rows l.face) l.parts.items;
-  kept : (k : List Bool) → Contains l.fn.pending.keys k → Contains l.pending.keys k;
-  added : (k : List Bool) → Contains l.pending.keys k → Contains l.fn.pending.keys k ⊎ IsPartOf l.rows.rows l.face k;
-  all : (k : List Bool) → Contains l.initial.parts.items k → Contains l.parts.items k ⊎ Contains l.pending.keys k;
+abbrev pub invariant-loop-place : goal.invariant-loop-place
+invariant-loop-place l = record {
+  part_len : length l.part ≡ l.rows.row_len;
+  opening : Opening l.rows l.face (keys l.fn.pending) l.pending.entries l.place;
 }
-
-abbrev pub decreases-loop-part : goal.decreases-loop-part
-decreases-loop-part l = vec_len l.parts
