@@ -1,14 +1,45 @@
 // Graphs of index sets.
+ghost use Rattle.pm_bits.specs.Table.{OtherContains};
 ghost use Rattle.pm_geom.specs.Graphs.{IsGraph};
 ghost use Rattle.pm_graph.specs.Edges.{AreAllNeighbours, IsIndexEdge, IsSetEdge, IsTableGraph};
 ghost use Rattle.pm_graph.specs.Levels.{AreBelow};
 ghost use Rattle.pm_graph.specs.Slices.{rows_of};
-ghost use Rattle.std.specs.Prelude.{IfOk, length, ◌<◌, ◌^◌, ◌≡◌};
+ghost use Rattle.std.specs.Prelude.{IfOk, IsTrue, length, ◌<◌, ◌^◌, ◌↔◌, ◌≡◌};
 
 use crate::bits::{columns_of, table_from, table_of};
 use pm_bits::{BitRow, BitTable};
 use pm_types::Sets;
 use std::alloc::{AllocError, Global};
+
+// Whether the row at `n` is another than those at `i` and `k`, and contains `s`.
+fn is_third(table: &BitTable, s: &BitRow, i: usize, k: usize, n: usize) -> bool
+    requires { length s.now ≡ table.now.row_len }
+    ensures { IsTrue result → OtherContains table.now s.now i k }
+{
+    if n >= table.len() {
+        return false;
+    }
+    if n == i {
+        return false;
+    }
+    if n == k {
+        return false;
+    }
+    table.row(n).contains(s)
+}
+
+// Whether some row other than those at `i` and `k` contains `s`: those of a list are looked at first.
+fn third_contains(table: &BitTable, s: &BitRow, i: usize, k: usize, first: &[u32]) -> bool
+    requires { length s.now ≡ table.now.row_len }
+    ensures { IsTrue result ↔ OtherContains table.now s.now i k }
+{
+    for n in first {
+        if is_third(table, s, i, k, *n as usize) {
+            return true;
+        }
+    }
+    table.other_contains(s, i, k)
+}
 
 // The rows that share with the one at `i` what no third row has. `meet` is a row to work in.
 fn neighbours(
@@ -29,7 +60,7 @@ fn neighbours(
             continue;
         }
         table.row(i).meet_into(table.row(k), meet);
-        if table.other_contains(meet, i, k) {
+        if third_contains(table, meet, i, k, &list) {
             continue;
         }
         list.push(k as u32)?;
