@@ -12,7 +12,7 @@ ghost use Rattle.std.specs.Prelude.{IfErr, IfNone, IfOk, IfSome, length, pos, tr
 use crate::fails::CombinationFail;
 use pm_elim::cancelling_factors;
 use pm_vector::{
-    Ints, Wide, combine, combine_primitive, dot, first_wide_place, primitive, wide_dot,
+    Ints, Wide, combine, dot, first_wide_place, primitive, primitive_combination, wide_dot,
 };
 use std::alloc::{AllocError, Global};
 
@@ -104,11 +104,7 @@ fn wide_combination(
 {
     let p = wide_dot(row.as_slice(), up.as_slice());
     let q = wide_dot(row.as_slice(), down.as_slice());
-    let mut entries = down.copy(alloc)?.into_vec();
-    match combine_primitive(p, &mut entries, q, up.as_slice()) {
-        Ok(()) => Ok(Some(Ints::from_vec(entries))),
-        Err(Wide) => Ok(None),
-    }
+    primitive_combination(alloc, p, down, q, up)
 }
 
 /// The combination of two rays that vanishes on a row, made primitive; with `wide` by wide numbers where those of the

@@ -14,7 +14,7 @@ use crate::basis::Growing;
 use crate::pivot::{pivot_of, pivot_row};
 use crate::round::place_of;
 use crate::step::{factors_at, is_zero_at};
-use pm_vector::{Ints, Wide, WideInt, combine, combine_primitive, primitive};
+use pm_vector::{Ints, Wide, WideInt, combine, primitive, primitive_combination};
 use std::alloc::{AllocError, AllocFailed, Global};
 use thiserror::Error;
 
@@ -50,10 +50,9 @@ fn wide_difference(alloc: Global, p: i128, row: &Ints, q: i128, by: &Ints) -> Re
     ensures primitive { IfOk result (λ w. IsPrimitiveOf (difference p row.now q by.now) w) }
     ensures lost { IfErr result (λ f. IfLost f (PrimitiveIsLost (difference p row.now q by.now))) }
 {
-    let mut entries = row.copy(alloc)?.into_vec();
-    match combine_primitive(WideInt::of(p), &mut entries, WideInt::of(q), by.as_slice()) {
-        Ok(()) => Ok(Ints::from_vec(entries)),
-        Err(Wide) => Err(WideFail::Lost),
+    match primitive_combination(alloc, WideInt::of(p), row, WideInt::of(q), by)? {
+        Some(made) => Ok(made),
+        None => Err(WideFail::Lost),
     }
 }
 

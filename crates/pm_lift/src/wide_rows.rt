@@ -9,7 +9,7 @@ ghost use Rattle.std.specs.Prelude.{IfNone, IfOk, IfSome, OnOk, [], length, pos,
 
 use crate::products::without_first;
 use pm_fraction::Fraction;
-use pm_vector::{Ints, Wide, WideInt, combine_primitive, wide_dot};
+use pm_vector::{Ints, WideInt, primitive_combination, wide_dot};
 use std::alloc::{AllocError, Global};
 
 /// The row of so many zeros, and then 1.
@@ -32,11 +32,7 @@ fn wide_row(alloc: Global, row: &Ints, p: i128, last: WideInt) -> Result<Option<
     let up = zeros_and_one(alloc, row.len())?;
     let mut longer = row.copy(alloc)?;
     longer.push(0)?;
-    let mut entries = longer.into_vec();
-    match combine_primitive(WideInt::of(p), &mut entries, last.opposite(), up.as_slice()) {
-        Ok(()) => Ok(Some(Ints::from_vec(entries))),
-        Err(Wide) => Ok(None),
-    }
+    primitive_combination(alloc, WideInt::of(p), &longer, last.opposite(), &up)
 }
 
 /// The primitive row of the lifted row of a row with a height. `None` where it leaves the range.

@@ -6,7 +6,7 @@ use pm_dd::{DdFail, extreme_rays, wide_extreme_rays};
 use pm_elim::{DualFail, dual_basis};
 use pm_fraction::Fraction;
 use pm_matrix::Matrix;
-use pm_vector::{WideInt, combine_primitive};
+use pm_vector::{WideInt, primitive_combination};
 use std::collections::{BTreeMap, HashSet};
 
 const MOST: i128 = 170_141_183_460_469_231_731_687_303_715_884_105_727;
@@ -21,15 +21,21 @@ fn wide_numbers_come_back_into_the_range(rt: HostRuntime) {
     assert!(rt; square.narrow().is_none() && square.is_positive());
     let difference = square.minus(WideInt::product(MOST, MOST - 1));
     assert!(rt; difference.expect(&rt, "a difference").narrow() == Some(MOST));
+    let alloc = rt.alloc();
     let most = WideInt::of(MOST);
-    let mut row = [MOST, 2];
-    let other = [0, 1];
-    let answer = combine_primitive(most, row.as_mut_slice(), most, other.as_slice());
-    assert!(rt; answer.is_ok() && row == [MOST, 1]);
-    let answer = combine_primitive(most, row.as_mut_slice(), WideInt::of(1), other.as_slice());
-    assert!(rt; answer.is_err() && row == [MOST, 1]);
-    let answer = combine_primitive(square, row.as_mut_slice(), square, other.as_slice());
-    assert!(rt; answer.is_ok() && row == [1, 0]);
+    let row = site(&rt, alloc, MOST, 2, 0);
+    let other = site(&rt, alloc, 1, 1, 0);
+    let found = primitive_combination(alloc, most, &row, most, &other);
+    let shown = format!(in alloc; "{found:?}").expect(&rt, "room for a text");
+    assert_eq!(rt;
+        shown.as_str(),
+        "Ok(Some(Ints { entries: [170141183460469231731687303715884105726, 1, 0] }))"
+    );
+    let found = primitive_combination(alloc, most, &row, WideInt::of(1), &other);
+    assert!(rt; matches!(&found, Ok(None)));
+    let found = primitive_combination(alloc, square, &row, square, &other);
+    let again = format!(in alloc; "{found:?}").expect(&rt, "room for a text");
+    assert_eq!(rt; again.as_str(), shown.as_str());
 }
 
 // The rows that a list is dual to; rows that are dependent; and a step that leaves the range where the first row is

@@ -23,6 +23,7 @@ pub mod QuotientLaws
 pub mod Halves
 pub mod Held
 pub mod MagnitudeSigns
+pub mod Turns
 pub mod WideSums
 pub mod WrittenQuotients
 pub mod WideExamples

@@ -1,121 +1,115 @@
--- The combination of two rows, its greatest common divisor, and its quotients as far as they are written.
+-- Quotients of a row by a divisor of its entries, as far as they are found.
 use Rattle.pm_vector.proofs.DivisorLaws.{IsGcdOf-more, IsPrimitive-from_gcd, IsPrimitiveOf-quotients, IsZero-from_gcd, Same-quotients, dvd_entry, primitive_row_unique, quotients}
 use Rattle.pm_vector.proofs.RowLaws.{entry-difference, entry-times, length-difference}
 use Rattle.pm_vector.proofs.Signs.{mul_cancel}
 use Rattle.pm_vector.specs.Divisors.{IsGcdOf, IsPrimitiveOf}
 use Rattle.pm_vector.specs.Numbers.{InRange}
 use Rattle.pm_vector.specs.Rows.{Row, Same, difference, entry, times}
-use Rattle.pm_vector.specs.Multiples.{HasQuotient, HaveQuotients}
-use Rattle.std.proofs.Common.{arith, below_more, get_or-set_other, get_or-set_same, inl, inr, length, refl, set, sym, take, ◌+◌, ◌<◌, ◌≡◌, ◌≢◌, ◌≤◌, ◌∙◌, ◌⊎◌, ℕ}
+use Rattle.pm_vector.specs.Multiples.{AreQuotients, HasQuotient, HaveQuotients}
+use Rattle.std.proofs.Common.{[], ap, arith, below_more, inl, inr, length, refl, sym, take, ◌+◌, ◌++◌, ◌<◌, ◌∷◌, ◌≡◌, ◌≤◌, ◌∙◌, ◌⊎◌, ℕ}
 use Rattle.std.proofs.Math.Nat.{one-dvd}
 use Rattle.std.proofs.lemmas.Bool.{cases_lt}
 use Rattle.std.proofs.lemmas.Int.{ints}
-use Rattle.std.proofs.lemmas.List.{get_or_default, get_or_past, take_all}
+use Rattle.std.proofs.lemmas.List.{get_or_append_left, get_or_past, get_or_push, length_push, take_all, take_more}
+use Rattle.std.proofs.lemmas.List.Elements.{All-push}
 use Rattle.std.specs.Int.{IsGcd, ◌∣◌}
-use Rattle.std.specs.Prelude.{All, IfNone, None, Option, Some, SomeIff, unsigned_abs}
+use Rattle.std.specs.Prelude.{All, SomeIff, Option, None, Some, unsigned_abs}
 use lib.IntN.{pos, ℤ, ◌*ℤ◌, ◌-ℤ◌}
 use lib.Signed.{◌<ℤ◌}
 
--- the first n entries of p v - q w are d times those of the new row, and the others are as they were
-pub record PartlyDivided (p : ℤ) (v : Row) (q : ℤ) (w : Row) (d n : ℕ) (new : Row) : Type 0 where
-  pub written : (i : ℕ) → i < n → entry (difference p v q w) i ≡ pos d *ℤ entry new i
-  pub in_range : (i : ℕ) → i < n → InRange (entry new i)
-  pub left : (i : ℕ) → n ≤ i → entry new i ≡ entry v i
+-- one entry more of p v - q w
+pub difference_more : (p : ℤ) (v : Row) (q : ℤ) (w : Row) (i : ℕ) (old new : Row) (z : ℤ) → i < length v → length v ≡ length w → z ≡ p *ℤ entry v i -ℤ q *ℤ entry w i → new ≡ old ++ z ∷ [] → old ≡ take i (difference p v q w) → new ≡ take (i + 1) (difference p v q w)
+difference_more p v q w i old new z l same e n h =
+    let cols = length-difference (length v) p v q w refl (sym same) in
+    n ∙ ap (λ r. r ++ z ∷ []) h ∙ ap (λ x. take i (difference p v q w) ++ x ∷ []) (e ∙ sym (entry-difference p v q w i)) ∙ sym (take_more (difference p v q w) i (pos 0) (omega (arith, cols)))
 
--- the only quotient is known where one is found
-pub no_quotient : (o : Option ℤ) (z y : ℤ) (d : ℕ) → 0 < d → SomeIff o (InRange y) y → z ≡ pos d *ℤ y → IfNone o (HasQuotient z d → ⊥)
-no_quotient (Some x) z y d some h e = tt
-no_quotient None z y d some h e = λ w.
-    let positive : pos 0 <ℤ pos d = omega (arith, ints) in
-    let same : y ≡ w.quotient = mul_cancel positive (sym e ∙ w.times) in
-    h (rw same w.in_range)
+pub difference_whole : (p : ℤ) (v : Row) (q : ℤ) (w : Row) (i : ℕ) (made : Row) → length v ≤ i → length v ≡ length w → made ≡ take i (difference p v q w) → made ≡ difference p v q w
+difference_whole p v q w i made l same h = h ∙ take_all i (difference p v q w) (omega (arith, length-difference (length v) p v q w refl (sym same)))
 
-module _ (p : ℤ) (v : Row) (q : ℤ) (w : Row) where
-  pub at_difference : (i : ℕ) (z : ℤ) → z ≡ p *ℤ entry v i -ℤ q *ℤ entry w i → z ≡ entry (difference p v q w) i
-  at_difference i z e = e ∙ sym (entry-difference p v q w i)
+module _ (x : Row) where
+  pub gcd_more : (i g h : ℕ) (z : ℤ) → i < length x → IsGcdOf (take i x) g → z ≡ entry x i → IsGcd g (unsigned_abs z) h → IsGcdOf (take (i + 1) x) h
+  gcd_more i g h z within so_far e both = IsGcdOf-more x i g h within so_far (rw e at both)
 
-  pub same_at : (new : Row) (i : ℕ) → entry new i ≡ entry v i → entry (difference p new q w) i ≡ entry (difference p v q w) i
-  same_at new i e = entry-difference p new q w i ∙ (rw e (sym (entry-difference p v q w i)))
+  pub gcd_all : (i g : ℕ) → length x ≤ i → IsGcdOf (take i x) g → IsGcdOf x g
+  gcd_all i g past h = rw (take_all i x past) at h
 
-  module _ (n : ℕ) (all_v : length v ≡ n) (all_w : length w ≡ n) where
-    cols : length (difference p v q w) ≡ n
-    cols = length-difference n p v q w all_v all_w
+  pub divisor_divides : (g d : ℕ) → IsGcdOf x g → ((g ≡ 0) × (d ≡ 1)) ⊎ ((0 < g) × (d ≡ g)) → (i : ℕ) → d ∣ unsigned_abs (entry x i)
+  divisor_divides g d h is i = elim is [
+    | inl none ↦ rw none.1 (one-dvd (unsigned_abs (entry x i)))
+    | inr some ↦ rw some.1 (dvd_entry x g h i)
+  ]
 
-    pub gcd_more : (i g h : ℕ) (z : ℤ) → i < n → IsGcdOf (take i (difference p v q w)) g → z ≡ entry (difference p v q w) i → IsGcd g (unsigned_abs z) h → IsGcdOf (take (i + 1) (difference p v q w)) h
-    gcd_more i g h z within so_far e both = IsGcdOf-more (difference p v q w) i g h (let l = cols in omega arith) so_far (rw e at both)
-
-    pub gcd_all : (i g : ℕ) → n ≤ i → IsGcdOf (take i (difference p v q w)) g → IsGcdOf (difference p v q w) g
-    gcd_all i g past h = rw (take_all i (difference p v q w) (let l = cols in omega arith)) at h
-
-    past_end : (i : ℕ) → n ≤ i → entry (difference p v q w) i ≡ pos 0
-    past_end i past = get_or_past (difference p v q w) i (pos 0) (let l = cols in omega arith)
-
-    pub divisor_divides : (g d : ℕ) → IsGcdOf (difference p v q w) g → ((g ≡ 0) × (d ≡ 1)) ⊎ ((0 < g) × (d ≡ g)) → (i : ℕ) → d ∣ unsigned_abs (entry (difference p v q w) i)
-    divisor_divides g d h is i = elim is [
-      | inl none ↦ rw none.1 (one-dvd (unsigned_abs (entry (difference p v q w) i)))
-      | inr some ↦ rw some.1 (dvd_entry (difference p v q w) g h i)
-    ]
-
-    -- ---- all are written
-    module _ (g d : ℕ) (new : Row) (h : IsGcdOf (difference p v q w) g) (is : ((g ≡ 0) × (d ≡ 1)) ⊎ ((0 < g) × (d ≡ g))) where
-      same_times : length new ≡ n → ((i : ℕ) → i < n → entry (difference p v q w) i ≡ pos d *ℤ entry new i) → Same (difference p v q w) (times (pos d) new)
-      same_times all_new written = record {
-        at = λ i. rw entry-times (elim (cases_lt i n) [
-          | inl below ↦ written i below
-          | inr past ↦
-              let none : entry new i ≡ pos 0 = get_or_past new i (pos 0) (omega arith) in
-              past_end i past ∙ (rw none (omega (arith, ints)))
-        ]);
-      }
-
-      pub primitive_written : length new ≡ n → ((i : ℕ) → i < n → entry (difference p v q w) i ≡ pos d *ℤ entry new i) → IsPrimitiveOf (difference p v q w) new
-      primitive_written all_new written =
-          let same = same_times all_new written in
-          elim is [
-            | inl none ↦
-                let zero_row = IsZero-from_gcd (difference p v q w) (rw none.0 at h) in
-                record { cols = all_new ∙ sym cols; divided = inl (zero_row, λ i. zero_quotient none.1 (entry new i) (sym (zero_row i) ∙ same.at i ∙ entry-times (pos d) new i)) }
-            | inr some ↦
-                let positive : pos 0 <ℤ pos g = omega (arith, ints) in
-                let same_g = rw some.1 at same in
-                record { cols = all_new ∙ sym cols; divided = inr (pos g, positive, same_g, IsPrimitive-from_gcd (difference p v q w) new g some.0 h same_g) }
-          ]
-        where
-          zero_quotient : d ≡ 1 → (z : ℤ) → pos 0 ≡ pos d *ℤ z → z ≡ pos 0
-          zero_quotient one z e = let e1 = rw one at e in omega (arith, ints)
-
-      -- ---- and where they cannot be, no row will do
-      pub none_fits : (u : Row) → IsPrimitiveOf (difference p v q w) u → All InRange u → HaveQuotients (difference p v q w) d n
-      none_fits u prim all = elim is [
-        | inl none ↦ λ i below.
-            let zero_row = IsZero-from_gcd (difference p v q w) (rw none.0 at h) in
-            record { quotient = pos 0; in_range = omega arith; times = zero_row i ∙ (omega (arith, ints)) }
-        | inr some ↦ λ i below.
-            let e = primitive_row_unique (difference p v q w) (quotients (difference p v q w) g) u (IsPrimitiveOf-quotients (difference p v q w) g some.0 h) prim in
-            let at_i = rw (e, entry-times) at ((Same-quotients (difference p v q w) g h).at i) in
-            record {
-              quotient = entry u i;
-              in_range = all i (pos 0) (let l = prim.cols in let k = cols in omega arith);
-              times = rw some.1 at_i;
-            }
-      ]
-
-  -- ---- one entry more
-  module _ (d : ℕ) where
-    pub PartlyDivided-none : PartlyDivided p v q w d 0 v
-    PartlyDivided-none = record { written = λ i h. absurd (omega arith); in_range = λ i h. absurd (omega arith); left = λ i h. refl }
-
-    pub PartlyDivided-more : (i : ℕ) (new : Row) (z : ℤ) → i < length new → PartlyDivided p v q w d i new → entry (difference p v q w) i ≡ pos d *ℤ z → InRange z → PartlyDivided p v q w d (i + 1) (set new i z)
-    PartlyDivided-more i new z within s e fits = record {
-      written = below_more _ i
-          (λ k below. let other : k ≢ i = omega arith in rw get_or-set_other (s.written k below))
-          (rw get_or-set_same e);
-      in_range = below_more _ i
-          (λ k below. let other : k ≢ i = omega arith in rw get_or-set_other (s.in_range k below))
-          (rw get_or-set_same fits);
-      left = λ k above. let other : k ≢ i = omega arith in rw get_or-set_other (s.left k (omega arith));
+  -- ---- all are found
+  module _ (g d : ℕ) (h : IsGcdOf x g) (is : ((g ≡ 0) × (d ≡ 1)) ⊎ ((0 < g) × (d ≡ g))) where
+    same_times : (new : Row) → AreQuotients x d new → Same x (times (pos d) new)
+    same_times new q = record {
+      at = λ i. rw entry-times (elim (cases_lt i (length x)) [
+        | inl below ↦ q.times i below
+        | inr past ↦
+            let none : entry new i ≡ pos 0 = let c = q.cols in get_or_past new i (pos 0) (omega arith) in
+            get_or_past x i (pos 0) past ∙ (rw none (omega (arith, ints)))
+      ]);
     }
 
-    pub All-written : (n : ℕ) (new : Row) → length new ≤ n → PartlyDivided p v q w d n new → All InRange new
-    All-written n new all_new s k other below =
-        rw (get_or_default new k other (pos 0) below) (s.in_range k (omega arith))
+    pub primitive_written : (new : Row) → AreQuotients x d new → IsPrimitiveOf x new
+    primitive_written new q =
+        let same = same_times new q in
+        elim is [
+          | inl none ↦
+              let zero_row = IsZero-from_gcd x (rw none.0 at h) in
+              record { cols = q.cols; divided = inl (zero_row, λ i. zero_quotient none.1 (entry new i) (sym (zero_row i) ∙ same.at i ∙ entry-times (pos d) new i)) }
+          | inr some ↦
+              let positive : pos 0 <ℤ pos g = omega (arith, ints) in
+              let same_g = rw some.1 at same in
+              record { cols = q.cols; divided = inr (pos g, positive, same_g, IsPrimitive-from_gcd x new g some.0 h same_g) }
+        ]
+      where
+        zero_quotient : d ≡ 1 → (z : ℤ) → pos 0 ≡ pos d *ℤ z → z ≡ pos 0
+        zero_quotient one z e = let e1 = rw one at e in omega (arith, ints)
+
+    -- ---- and where they cannot be, no row will do
+    pub none_fits : (u : Row) → IsPrimitiveOf x u → All InRange u → HaveQuotients x d (length x)
+    none_fits u prim all = elim is [
+      | inl none ↦ λ i below.
+          let zero_row = IsZero-from_gcd x (rw none.0 at h) in
+          record { quotient = pos 0; in_range = omega arith; times = zero_row i ∙ (omega (arith, ints)) }
+      | inr some ↦ λ i below.
+          let e = primitive_row_unique x (quotients x g) u (IsPrimitiveOf-quotients x g some.0 h) prim in
+          let at_i = rw (e, entry-times) at ((Same-quotients x g h).at i) in
+          record {
+            quotient = entry u i;
+            in_range = all i (pos 0) (let l = prim.cols in omega arith);
+            times = rw some.1 at_i;
+          }
+    ]
+
+  -- ---- one quotient more
+  -- the first quotients by d
+  pub record FirstQuotients (d i : ℕ) (new : Row) : Type 0 where
+    pub cols : length new ≡ i
+    pub times : (k : ℕ) → k < i → entry x k ≡ pos d *ℤ entry new k
+    pub in_range : All InRange new
+
+  module _ (d : ℕ) where
+    pub first_none : FirstQuotients d 0 []
+    first_none = record { cols = refl; times = λ k l. absurd (omega arith); in_range = λ k e l. absurd (omega arith) }
+
+    pub first_more : (i : ℕ) (old new : Row) (z : ℤ) → FirstQuotients d i old → entry x i ≡ pos d *ℤ z → InRange z → new ≡ old ++ z ∷ [] → FirstQuotients d (i + 1) new
+    first_more i old new z f e r n = rw n record {
+      cols = length_push old z ∙ ap (λ k. k + 1) f.cols;
+      times = below_more _ i
+          (λ k below. f.times k below ∙ ap (λ y. pos d *ℤ y) (sym (get_or_append_left old (z ∷ []) (pos 0) k (let c = f.cols in omega arith))))
+          (e ∙ ap (λ y. pos d *ℤ y) (sym (get_or_push old z (pos 0) i f.cols)));
+      in_range = All-push InRange old z f.in_range r;
+    }
+
+    pub first_all : (i : ℕ) (new : Row) → length x ≤ i → i ≤ length x → FirstQuotients d i new → AreQuotients x d new
+    first_all i new past within f = record { cols = f.cols ∙ omega arith; times = λ k l. f.times k (omega arith) }
+
+    -- the only quotient is known where one is found
+    pub no_quotient : (i : ℕ) (y : ℤ) → i < length x → 0 < d → entry x i ≡ pos d *ℤ y → ¬ (InRange y) → ¬ (HaveQuotients x d (length x))
+    no_quotient i y l some e h all =
+        let w = all i l in
+        let positive : pos 0 <ℤ pos d = omega (arith, ints) in
+        let same : y ≡ w.quotient = mul_cancel positive (sym e ∙ w.times) in
+        h (rw same w.in_range)

@@ -1,5 +1,5 @@
 -- Divisors of rows.
-use Rattle.std.specs.Int.{◌∣◌}
+use Rattle.std.specs.Int.{IsGcd, ◌∣◌}
 use Rattle.std.specs.Prelude.{ℕ, ◌≡◌, ◌↔◌, ◌⊎◌, length, unsigned_abs}
 use Rattle.pm_vector.specs.Rows.{Row, entry, times, Same, IsZero}
 use lib.IntN.{ℤ, pos}
@@ -17,3 +17,7 @@ pub record IsPrimitive (x : Row) : Type 0 where
 pub record IsPrimitiveOf (v w : Row) : Type 0 where
   pub cols : length w ≡ length v
   pub divided : (IsZero v × IsZero w) ⊎ ((g : ℤ) × (pos 0 <ℤ g) × Same v (times g w) × IsPrimitive w)
+
+-- what is the greatest common divisor of v and w is that of x and y
+abbrev pub HaveDivisorsOf : ℕ → ℕ → ℕ → ℕ → Type 0
+HaveDivisorsOf x y v w = (g : ℕ) → IsGcd v w g → IsGcd x y g

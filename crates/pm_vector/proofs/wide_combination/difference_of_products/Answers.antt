@@ -1,5 +1,5 @@
 use Rattle.pm_vector.proofs.Held.{difference_within, kept}
-use Rattle.pm_vector.proofs.primitive_combination.difference_of_products.Goals as goal
+use Rattle.pm_vector.proofs.wide_combination.difference_of_products.Goals as goal
 use Rattle.pm_vector.specs.WideInts.{value_of}
 
 pub unreachable-requires : goal.unreachable-requires

@@ -1,5 +1,5 @@
 use Rattle.pm_vector.proofs.Held.{factor_within, kept}
-use Rattle.pm_vector.proofs.primitive_combination.product.Goals as goal
+use Rattle.pm_vector.proofs.wide_combination.product.Goals as goal
 use Rattle.pm_vector.specs.WideInts.{value_of}
 
 pub unreachable-requires : goal.unreachable-requires
