@@ -4,15 +4,14 @@ use Rattle.pm_vector.proofs.RowLaws.{dot-plus, dot-times, entry-plus, entry-time
 use Rattle.pm_vector.proofs.Signs.{mul_le, mul_nonneg, mul_pos}
 use Rattle.pm_vector.specs.Numbers.{Ratio}
 use Rattle.pm_vector.specs.Rows.{Row, dot, entry, plus, times}
-use Rattle.pm_dual.specs.Answers.{IsAnswer}
-use Rattle.pm_dual.specs.Exact.{AnswersAreExact, HasMaximum, IsExact}
+use Rattle.pm_dual.specs.Exact.{AnswersAreExact}
 use Rattle.pm_dual.specs.declared.answer.LpAnswer.TheVariants.{Infeasible, Optimal, Unbounded}
 use Rattle.pm_geom.proofs.Duality.{direction_is_without_bound, infeasible_has_no_point, optimum_is_maximum}
 use Rattle.pm_geom.specs.Programs.{HasNoPoint, IsMaximum, IsWithoutBound, Solves}
 use Rattle.std.proofs.Common.{ap, arith, refl, subst, sym, true≢false, ◌∙◌}
 use Rattle.std.proofs.lemmas.Int.{ints}
 use Rattle.std.specs.List.{AllByRecursion}
-use Rattle.std.specs.Prelude.{List, [], false, true, ◌∷◌, ◌≡◌}
+use Rattle.std.specs.Prelude.{List, [], ◌∷◌, ◌≡◌}
 use lib.IntN.{pos, ℤ, ◌*ℤ◌, ◌+ℤ◌, ◌-ℤ◌}
 use lib.Signed.{◌<ℤ◌, ◌≤ℤ◌}
 

@@ -7,6 +7,7 @@ ghost use Rattle.pm_dual.specs.Answers.{IsAnswer, IsAnswerOfTimes};
 ghost use Rattle.std.specs.Prelude.{IfOk, IfSome, IsTrue, List, [], length, pos, ◌+◌, ◌++◌, ◌<◌, ◌<ℤ◌, ◌∷◌, ◌≡◌, ◌≤ℤ◌, ℕ};
 
 use crate::answer::LpAnswer;
+use crate::search_objectives::is_constant;
 use crate::sums::{add_rows, solves};
 use crate::whole::{WholeObjective, quotients};
 use pm_fraction::Fraction;
@@ -19,22 +20,6 @@ fn is_not_negative(numbers: &[i128]) -> bool
 {
     for i in 0..numbers.len() {
         if numbers[i] < 0 {
-            return false;
-        }
-    }
-    true
-}
-
-/// Whether a row is a constant: the value first, and then 0.
-fn is_constant(row: &Ints, value: i128) -> bool
-    requires { 0 < length row.now }
-    ensures { IsTrue result → Same row.now (value ∷ []) }
-{
-    if row.get(0) != value {
-        return false;
-    }
-    for i in 1..row.len() {
-        if row.get(i) != 0 {
             return false;
         }
     }
@@ -94,7 +79,7 @@ fn sums_to(
     if !add_all(start, multipliers, inequalities, equations) {
         return false;
     }
-    is_constant(start, constant)
+    start.get(0) == constant && is_constant(start.as_slice())
 }
 
 /// A row, taken a number of times, where that is exact.

@@ -1,7 +1,9 @@
 // A search for the answer by the dual simplex method from the best vertex of a box without end. Nothing is claimed of
 // what it finds.
 
+use crate::fails::SearchFail;
 use crate::rows::{Row, Rows};
+use crate::search_objectives::{is_constant, search_objective};
 use crate::vertex::{Vertex, Violated};
 use std::alloc::{AllocError, Global};
 
@@ -90,25 +92,6 @@ fn slope_multipliers(
     Ok(Some(multipliers))
 }
 
-/// Whether all numbers but the first are 0, so that any point will do.
-fn is_constant(objective: &[i128]) -> bool {
-    for i in 1..objective.len() {
-        if objective[i] != 0 {
-            return false;
-        }
-    }
-    true
-}
-
-/// The objective that the search goes by: where any point will do that of ones, since steps that lose nothing may go
-/// in a circle.
-fn guide(alloc: Global, objective: &[i128]) -> Result<Vec<i128>, AllocError> {
-    if is_constant(objective) {
-        return vec![in alloc; 1; objective.len()];
-    }
-    Vec::from_slice(alloc, objective)
-}
-
 /// The guess where no row is missed.
 fn at_end(
     alloc: Global,
@@ -139,30 +122,20 @@ fn at_end(
 #[derive(Drop)]
 enum Step {
     Moved,
-    Lost,
     End,
     Infeasible(Violated),
 }
 
 /// One step: the row that is missed most is met.
-fn make_step(alloc: Global, rows: Rows, vertex: &mut Vertex) -> Result<Step, AllocError> {
-    let Ok(worst) = vertex.worst(alloc, rows)? else {
-        return Ok(Step::Lost);
-    };
-    let Some(violated) = worst else {
+fn make_step(alloc: Global, rows: Rows, vertex: &mut Vertex) -> Result<Step, SearchFail> {
+    let Some(violated) = vertex.worst(alloc, rows)? else {
         return Ok(Step::End);
     };
-    match vertex.leaving(rows, violated.row) {
-        Err(()) => Ok(Step::Lost),
-        Ok(None) => Ok(Step::Infeasible(violated)),
-        Ok(Some(place)) => {
-            if vertex.step(place, violated)? {
-                Ok(Step::Moved)
-            } else {
-                Ok(Step::Lost)
-            }
-        }
-    }
+    let Some(place) = vertex.leaving(rows, violated.row)? else {
+        return Ok(Step::Infeasible(violated));
+    };
+    vertex.step(place, violated)?;
+    Ok(Step::Moved)
 }
 
 /// A guess of the answer. None where the numbers are not small, or the steps are too many.
@@ -171,14 +144,13 @@ pub(crate) fn search(
     rows: Rows,
     objective: &[i128],
 ) -> Result<Option<Guess>, AllocError> {
-    let guide = guide(alloc, objective)?;
+    let guide = search_objective(alloc, objective)?;
     let mut vertex = Vertex::start(alloc, &guide)?;
     for _i in 0..STEPS {
-        match make_step(alloc, rows, &mut vertex)? {
-            Step::Moved => {}
-            Step::Lost => return Ok(None),
-            Step::End => return at_end(alloc, rows, objective, vertex),
-            Step::Infeasible(violated) => {
+        match make_step(alloc, rows, &mut vertex) {
+            Ok(Step::Moved) => {}
+            Ok(Step::End) => return at_end(alloc, rows, objective, vertex),
+            Ok(Step::Infeasible(violated)) => {
                 let Some(multipliers) = slope_multipliers(alloc, rows, &vertex, violated.row)?
                 else {
                     return Ok(None);
@@ -188,6 +160,8 @@ pub(crate) fn search(
                     multipliers,
                 }));
             }
+            Err(SearchFail::Lost) => return Ok(None),
+            Err(SearchFail::Memory) => return Err(AllocError),
         }
     }
     Ok(None)

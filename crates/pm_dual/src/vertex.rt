@@ -1,5 +1,6 @@
 // A vertex of a program that is bounded by a box without end, by whole numbers over one scale.
 
+use crate::fails::SearchFail;
 use crate::rows::{Row, Rows, short_numbers, sum_of_products};
 use crate::wide::{Divisor, is_ratio_less, make_divisor};
 use std::alloc::{AllocError, Global};
@@ -50,33 +51,31 @@ fn unit(alloc: Global, cols: usize, place: usize, number: i128) -> Result<Vec<i1
 }
 
 /// x becomes (p x - f ray) / d, where that is small.
-fn move_along(x: &mut [i128], p: i128, f: i128, ray: &[i128], d: Divisor) -> bool {
+fn move_along(
+    x: &mut [i128],
+    p: i128,
+    f: i128,
+    ray: &[i128],
+    d: Divisor,
+) -> Result<(), SearchFail> {
     for i in 0..x.len() {
         let r = if i < ray.len() { ray[i] } else { 0 };
         if x[i] == 0 && (f == 0 || r == 0) {
             continue;
         }
-        match d.reduced_product(x[i], p, f, r) {
-            Some(entry) => x[i] = entry,
-            None => return false,
-        }
+        x[i] = d.reduced_product(x[i], p, f, r).ok_or(SearchFail::Lost)?;
     }
-    true
+    Ok(())
 }
 
 impl Edge {
     /// What becomes of the edge when the row that enters is met along the pivot's ray.
-    fn turn(&mut self, pivot: &Edge, d: Divisor) -> bool {
-        if !move_along(&mut self.ray, pivot.slope, self.slope, &pivot.ray, d) {
-            return false;
-        }
-        match d.reduced_product(self.gain, pivot.slope, self.slope, pivot.gain) {
-            Some(gain) => {
-                self.gain = gain;
-                true
-            }
-            None => false,
-        }
+    fn turn(&mut self, pivot: &Edge, d: Divisor) -> Result<(), SearchFail> {
+        move_along(&mut self.ray, pivot.slope, self.slope, &pivot.ray, d)?;
+        self.gain = d
+            .reduced_product(self.gain, pivot.slope, self.slope, pivot.gain)
+            .ok_or(SearchFail::Lost)?;
+        Ok(())
     }
 
     /// Whether this edge is to leave before another, by what it loses for each step.
@@ -121,29 +120,28 @@ impl Vertex {
         })
     }
 
-    /// The products of a row, where the vertex does not meet it; an error where a product is not small.
-    fn violated(&self, rows: Rows, row: Row, short: Short) -> Result<Option<Violated>, ()> {
+    /// The products of a row, where the vertex does not meet it.
+    fn violated(&self, rows: Rows, row: Row, short: Short) -> Result<Option<Violated>, SearchFail> {
         let far = if short.is_near {
             0
         } else {
-            rows.quick_product(row, &self.far, short.far).ok_or(())?
+            rows.quick_product(row, &self.far, short.far)
+                .ok_or(SearchFail::Lost)?
         };
         if far > 0 {
             return Ok(None);
         }
-        let near = rows.quick_product(row, &self.near, short.near).ok_or(())?;
+        let near = rows
+            .quick_product(row, &self.near, short.near)
+            .ok_or(SearchFail::Lost)?;
         if far == 0 && near >= 0 {
             return Ok(None);
         }
         Ok(Some(Violated { row, far, near }))
     }
 
-    /// The row that is missed most, if products are small.
-    pub(crate) fn worst(
-        &self,
-        alloc: Global,
-        rows: Rows,
-    ) -> Result<Result<Option<Violated>, ()>, AllocError> {
+    /// The row that is missed most, by short numbers where there are some.
+    pub(crate) fn worst(&self, alloc: Global, rows: Rows) -> Result<Option<Violated>, SearchFail> {
         let short_near = short_numbers(alloc, &self.near)?;
         let short_far = short_numbers(alloc, &self.far)?;
         let short = Short {
@@ -151,11 +149,11 @@ impl Vertex {
             far: &short_far,
             is_near: self.far.iter().all(|x| *x == 0),
         };
-        Ok(self.worst_by(rows, short))
+        self.worst_by(rows, short)
     }
 
     /// The row that is missed most.
-    fn worst_by(&self, rows: Rows, short: Short) -> Result<Option<Violated>, ()> {
+    fn worst_by(&self, rows: Rows, short: Short) -> Result<Option<Violated>, SearchFail> {
         let mut worst = None;
         for i in 0..rows.inequalities.len() {
             worst = worse(worst, self.violated(rows, Row::Inequality(i), short)?);
@@ -168,10 +166,12 @@ impl Vertex {
     }
 
     /// Takes the products of the edges with the row that enters. The answer is the edge that leaves.
-    pub(crate) fn leaving(&mut self, rows: Rows, row: Row) -> Result<Option<usize>, ()> {
+    pub(crate) fn leaving(&mut self, rows: Rows, row: Row) -> Result<Option<usize>, SearchFail> {
         let mut best: Option<usize> = None;
         for i in 0..self.edges.len() {
-            self.edges[i].slope = rows.product(row, &self.edges[i].ray).ok_or(())?;
+            self.edges[i].slope = rows
+                .product(row, &self.edges[i].ray)
+                .ok_or(SearchFail::Lost)?;
             if self.edges[i].slope > 0 {
                 best = match best {
                     Some(k) if k < i && !self.edges[i].is_before(&self.edges[k]) => Some(k),
@@ -183,21 +183,21 @@ impl Vertex {
     }
 
     /// Moves along the ray of an edge until the row is met.
-    pub(crate) fn step(&mut self, place: usize, violated: Violated) -> Result<bool, AllocError> {
+    pub(crate) fn step(&mut self, place: usize, violated: Violated) -> Result<(), SearchFail> {
         if place >= self.edges.len() || self.scale <= 0 {
-            return Ok(false);
+            return Err(SearchFail::Lost);
         }
         let d = make_divisor(self.scale.unsigned_abs());
         let mut pivot = self.edges.swap_remove(place);
-        let mut is_exact = move_along(&mut self.near, pivot.slope, violated.near, &pivot.ray, d)
-            && move_along(&mut self.far, pivot.slope, violated.far, &pivot.ray, d);
+        move_along(&mut self.near, pivot.slope, violated.near, &pivot.ray, d)?;
+        move_along(&mut self.far, pivot.slope, violated.far, &pivot.ray, d)?;
         for i in 0..self.edges.len() {
-            is_exact = is_exact && self.edges[i].turn(&pivot, d);
+            self.edges[i].turn(&pivot, d)?;
         }
         self.scale = pivot.slope;
         pivot.row = Some(violated.row);
         self.edges.push(pivot)?;
-        Ok(is_exact)
+        Ok(())
     }
 
     /// The vertex at a distance at which it meets all rows.

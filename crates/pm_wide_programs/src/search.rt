@@ -5,6 +5,7 @@ use crate::multipliers::{Measure, Scaled, multipliers};
 use crate::point::move_out;
 use crate::rows::{Rows, product_of};
 use crate::vertex::{Vertex, Violated};
+use pm_dual::search_objective;
 use pm_vector::WideInt;
 use std::alloc::{AllocError, Global};
 
@@ -106,17 +107,6 @@ fn without_point(
     Ok(Some(Guess::Infeasible { multipliers }))
 }
 
-/// The objective that the search goes by: where all numbers but the first are 0, so that any point will do, that of
-/// ones, since steps that lose nothing may go in a circle.
-fn guide(alloc: Global, objective: &[i128]) -> Result<Vec<i128>, AllocError> {
-    for i in 1..objective.len() {
-        if objective[i] != 0 {
-            return Vec::from_slice(alloc, objective);
-        }
-    }
-    vec![in alloc; 1; objective.len()]
-}
-
 /// A guess of the answer. None where a number on the way has more than 512 bits, or the steps are too many.
 pub(crate) fn search(
     alloc: Global,
@@ -124,7 +114,7 @@ pub(crate) fn search(
     count: usize,
     objective: &[i128],
 ) -> Result<Option<Guess>, AllocError> {
-    let guide = guide(alloc, objective)?;
+    let guide = search_objective(alloc, objective)?;
     let mut vertex = Vertex::start(alloc, &guide)?;
     for _i in 0..STEPS {
         match make_step(rows, count, &guide, &mut vertex)? {

@@ -1,5 +1,5 @@
 use Rattle.pm_vector.specs.Rows.{entry}
-use Rattle.pm_dual.proofs.check.is_constant.Given as goal
+use Rattle.pm_dual.proofs.search_objectives.is_constant.Given as goal
 use Rattle.std.proofs.Common.{pos, ℕ, ◌<◌, ◌≡◌, ◌≤◌}
 
 abbrev pub invariant-loop-i : goal.invariant-loop-i
