@@ -20,9 +20,7 @@ use Rattle.serde_json.specs.Written.{compact_text, items_outline, outline}
 use Rattle.serde_json.proofs.Texts.{print-outline}
 use Rattle.pm_vector.specs.Numbers.{InRange, InRangeRatio, Ratio}
 use Rattle.pm_fraction.specs.Text.{text_of}
-use Rattle.pm_props.specs.declared.property.PropId.{PropId}
-use Rattle.pm_props.specs.declared.property.PropId.TheVariants.{LinearObjective, SiteHeights}
-use Rattle.pm_files.specs.ValueJson.{fraction_json, is_one_row, matrix_json, row_json, rows_json}
+use Rattle.pm_files.specs.ValueJson.{fraction_json, matrix_json, row_json}
 use lib.IntN.{pos, negsuc, ℤ}
 
 -- ---- fractions
@@ -93,9 +91,3 @@ is_read d c =
 pub matrix_is_read : (n : ℕ) (rows : List (List Ratio)) → rows ≢ [] → read (compact_text (matrix_json n rows)) ≡ Some (matrix_json n rows)
 matrix_is_read n [] some = absurd (some refl)
 matrix_is_read n (r ∷ rows) some = is_read (matrix_json n (r ∷ rows)) (rows_come (r ∷ rows))
-
--- ---- matrices
-pub not_one_row : (p : PropId) (n : ℕ) (rows : List (List Ratio)) → is_one_row p ≡ false → rows_json p n rows ≡ matrix_json n rows
-not_one_row LinearObjective n rows h = cc
-not_one_row SiteHeights n rows h = cc
-not_one_row p n rows h = refl

@@ -3,12 +3,11 @@ use Rattle.std.proofs.Common.{refl, ◌≡◌, ◌≤◌, ℕ, List, [], ◌∷�
 use Rattle.std.specs.Prelude.{if◌then◌else◌}
 use Rattle.pm_vector.specs.Numbers.{Ratio}
 use Rattle.pm_props.specs.declared.property.PropId.{PropId}
-use Rattle.pm_props.specs.declared.property.PropId.TheVariants.{LinearObjective, SiteHeights}
 use Rattle.pm_types.specs.Values.{PropertyValue, matrix, sets, whole, truth, extended, edges, lattice, counts, finite, plus_infinity, minus_infinity}
 use Rattle.serde_json.specs.Data.{Data, depth, items_depth}
 use Rattle.serde_json.specs.View.{items_of}
 use Rattle.serde_json.specs.Written.{has_float, items_have_float}
-use Rattle.pm_files.specs.ValueJson.{cols_json, edges_json, fraction_json, index_json, json_of, matrix_json, objective_json, row_json, rows_json, set_json, untold_cols, whole_json}
+use Rattle.pm_files.specs.ValueJson.{cols_json, edges_json, fraction_json, index_json, is_one_row, json_of, matrix_json, objective_json, row_json, rows_json, set_json, untold_cols, whole_json}
 use lib.IntN.{ℤ, pos, negsuc}
 
 -- ---- nesting
@@ -45,9 +44,11 @@ objective_depth [] = omega arith
 objective_depth (r ∷ rows) = let e = row_depth r in omega arith
 
 rows_depth : (p : PropId) (n : ℕ) (rows : List (List Ratio)) → depth (rows_json p n rows) ≤ 3
-rows_depth LinearObjective n rows = objective_depth rows
-rows_depth SiteHeights n rows = objective_depth rows
-rows_depth p n rows = matrix_depth n rows
+rows_depth p n rows = by (is_one_row p)
+  where
+    by : (one : Bool) → depth (if one then objective_json rows else matrix_json n rows) ≤ 3
+    by true = objective_depth rows
+    by false = matrix_depth n rows
 
 pub value_depth : (p : PropId) (v : PropertyValue) → depth (json_of p v) ≤ 3
 value_depth p (matrix n rows) = rows_depth p n rows
@@ -95,9 +96,11 @@ objective_whole [] = refl
 objective_whole (r ∷ rows) = row_whole r
 
 rows_whole : (p : PropId) (n : ℕ) (rows : List (List Ratio)) → has_float (rows_json p n rows) ≡ false
-rows_whole LinearObjective n rows = objective_whole rows
-rows_whole SiteHeights n rows = objective_whole rows
-rows_whole p n rows = matrix_whole n rows
+rows_whole p n rows = by (is_one_row p)
+  where
+    by : (one : Bool) → has_float (if one then objective_json rows else matrix_json n rows) ≡ false
+    by true = objective_whole rows
+    by false = matrix_whole n rows
 
 number_whole : (k : ℤ) → has_float (whole_json k) ≡ false
 number_whole (pos n) = refl

@@ -47,9 +47,7 @@ is_one_row SiteHeights = true
 is_one_row p = false
 
 abbrev pub rows_json : PropId → ℕ → List (List Ratio) → Data
-rows_json LinearObjective n rows = objective_json rows
-rows_json SiteHeights n rows = objective_json rows
-rows_json p n rows = matrix_json n rows
+rows_json p n rows = if is_one_row p then objective_json rows else matrix_json n rows
 
 -- ---- sets
 abbrev pub index_json : ℕ → Data

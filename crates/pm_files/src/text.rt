@@ -2,7 +2,6 @@
 
 ghost use Rattle.pm_fraction.specs.Text.{text_of};
 ghost use Rattle.pm_files.specs.ValueJson.{fraction_json, json_of, matrix_json, row_json, value_text};
-ghost use Rattle.pm_props.specs.declared.property.PropId.TheVariants.{LinearObjective, SiteHeights};
 ghost use Rattle.pm_types.specs.Views.{view_of};
 ghost use Rattle.serde_json.specs.Read.{read};
 ghost use Rattle.serde_json.specs.Written.{comma_if, compact_text};
