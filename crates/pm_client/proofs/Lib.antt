@@ -12,7 +12,8 @@ pub mod PlainValues
 pub mod Machine
 pub mod FreshOrders
 pub mod Lost
-mod NoRows
+pub mod NoRows
+pub mod PrimitiveWholes
 pub mod Examples
 mod ThinningExamples
 mod ProgramExamples

@@ -1,4 +1,4 @@
--- Rows of what a client reads, as evidence names them.
+-- Rows of what a client reads, as evidence names them; what is read as a matrix has no other rows.
 use Rattle.pm_vector.proofs.Lists.{Contains_among}
 use Rattle.pm_vector.specs.Divisors.{IsPrimitive}
 use Rattle.pm_vector.specs.Numbers.{Ratio}
@@ -38,3 +38,6 @@ row_of v of_kind p n rows xs x read kind h c some =
       multiple = subst (λ z. Stands (get_or rows j []) z) is (h.multiple j (omega arith));
       primitive = primitive_unless (get_or rows j []) x (subst (λ z. IsPrimitiveRowOf (get_or rows j []) z) is (h.each j (omega arith))) some;
     }
+
+pub same_rows : (m n : ℕ) (X Y : List (List Ratio)) → Some (matrix m X) ≡ Some (matrix n Y) → X ≡ Y
+same_rows m n X Y e = cc

@@ -1,29 +1,23 @@
 -- The examples of maximal cones that are lost by wide numbers, and of failures.
-use Rattle.pm_clients_fans.proofs.WholeRows.{none_whole, two_whole}
+use Rattle.pm_client.proofs.Lost.{one_stays}
+use Rattle.pm_client.proofs.NoRows.{none_primitive}
+use Rattle.pm_client.proofs.PrimitiveWholes.{by_one, two_whole}
+use Rattle.pm_client.proofs.ReadRows.{same_rows}
 use Rattle.pm_clients_fans.specs.Cones.{ReadsLostCone}
 use Rattle.pm_clients_fans.specs.Examples.{LostMaximalConesAreRead, with_cones}
 use Rattle.pm_elim.proofs.LostExamples.{lost_eliminations_are_read}
-use Rattle.pm_elim.specs.Lost.{IsLost}
 use Rattle.pm_elim.specs.LostExamples.{odd_next, odd_row}
 use Rattle.pm_fan.specs.Dimensions.{cone_rows}
-use Rattle.pm_types.specs.Values.{matrix, sets}
-use Rattle.pm_vector.proofs.DivisorLaws.{IsPrimitive-from_one}
+use Rattle.pm_types.specs.Values.{sets}
 use Rattle.pm_vector.proofs.Lists.{Among, Contains_among, among_Contains, here, there}
-use Rattle.pm_vector.specs.Divisors.{IsPrimitive}
-use Rattle.pm_vector.specs.Numbers.{Ratio}
-use Rattle.pm_vector.specs.Rows.{Row, entry}
+use Rattle.pm_vector.specs.Rows.{Row}
 use Rattle.std.proofs.Common.{ap, arith, refl, subst, sym, ◌∙◌}
-use Rattle.std.proofs.Math.Nat.{one-dvd}
 use Rattle.std.proofs.lemmas.List.{length-append, length-map}
-use Rattle.std.proofs.lemmas.Nat.Gcd.{dvd_trans}
 use Rattle.std.specs.List.{Contains}
-use Rattle.std.specs.Prelude.{List, Some, [], length, unsigned_abs, ℕ, ◌∷◌, ◌≡◌}
+use Rattle.std.specs.Prelude.{List, Some, [], length, ℕ, ◌∷◌, ◌≡◌}
 
 abbrev two : List Row
 two = odd_row ∷ odd_next ∷ []
-
-by_one : (x : Row) (i : ℕ) → unsigned_abs (entry x i) ≡ 1 → IsPrimitive x
-by_one x i e = IsPrimitive-from_one x (record { divides = λ d. (λ h j. dvd_trans d h (one-dvd (unsigned_abs (entry x j))), λ f. rw e at (f i)) })
 
 lost : ReadsLostCone (with_cones ((0 ∷ 1 ∷ []) ∷ []))
 lost = record {
@@ -32,7 +26,7 @@ lost = record {
   index = record { rows = (0 ∷ 1 ∷ []) ∷ []; cols = 2 };
   read = record {
     rays = record { cols = 3; rows = _; reads = refl; primitive = two_whole odd_row odd_next (by_one odd_row 1 refl) (by_one odd_next 0 refl) };
-    lines = record { cols = 0; rows = []; reads = refl; primitive = none_whole };
+    lines = record { cols = 0; rows = []; reads = refl; primitive = none_primitive };
     reads = refl;
   };
   lost = record {
@@ -43,16 +37,8 @@ lost = record {
 }
 
 -- ---- without lines the rows of a cone of one ray are one row
-same_rows : (m n : ℕ) (X Y : List (List Ratio)) → Some (matrix m X) ≡ Some (matrix n Y) → X ≡ Y
-same_rows m n X Y e = cc
-
 same_sets : (m n : ℕ) (X Y : List (List ℕ)) → Some (sets X m) ≡ Some (sets Y n) → X ≡ Y
 same_sets m n X Y e = cc
-
-one_stays : (n : ℕ) (X : List Row) → length X ≡ 1 → IsLost n X → ⊥
-one_stays n [] e h = omega arith
-one_stays n (x ∷ []) e h = lost_eliminations_are_read.not_one n x h
-one_stays n (x ∷ y ∷ X) e h = omega arith
 
 abbrev apart : List (List ℕ)
 apart = (0 ∷ []) ∷ (1 ∷ []) ∷ []

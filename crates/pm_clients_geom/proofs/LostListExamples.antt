@@ -1,83 +1,20 @@
 -- Which row lists of a view are lost by wide numbers, and how a wide client fails.
-use Rattle.pm_vector.proofs.DivisorLaws.{IsPrimitive-from_one}
-use Rattle.pm_vector.proofs.Ring.{ring}
-use Rattle.pm_vector.proofs.RowLaws.{entry-times}
-use Rattle.pm_vector.specs.Divisors.{IsPrimitive, IsPrimitiveOf}
-use Rattle.pm_vector.specs.Numbers.{Ratio}
-use Rattle.pm_vector.specs.Rows.{Row, Stands, entry, ratio_at}
+use Rattle.pm_vector.specs.Divisors.{IsPrimitive}
+use Rattle.pm_vector.specs.Rows.{Row}
+use Rattle.pm_client.proofs.Lost.{one_stays}
+use Rattle.pm_client.proofs.NoRows.{none_primitive}
+use Rattle.pm_client.proofs.PrimitiveWholes.{by_one, two_whole}
+use Rattle.pm_client.proofs.ReadRows.{same_rows}
 use Rattle.pm_client.specs.Sound.{IsListOf}
 use Rattle.pm_clients_geom.specs.Lists.{IsLostExtendedList, IsLostList}
 use Rattle.pm_clients_geom.specs.LostListExamples.{LostListsAreRead, with_rays}
 use Rattle.pm_elim.proofs.LostExamples.{lost_eliminations_are_read}
-use Rattle.pm_elim.specs.Lost.{IsLost}
 use Rattle.pm_elim.specs.LostExamples.{odd_next, odd_row, one_entry, two_rows}
-use Rattle.pm_matrix.specs.FractionRows.{ArePrimitiveRowsOf, IsLeastDenominator, IsPrimitiveRowOf, numerators_over}
 use Rattle.pm_props.specs.declared.property.PropId.TheVariants.{LinealitySpace, Vertices}
-use Rattle.pm_types.proofs.WholeRows.{length_ratios, ratio_at_ratios}
-use Rattle.pm_types.specs.Values.{matrix}
 use Rattle.pm_types.specs.Views.{ratios}
-use Rattle.std.proofs.Common.{ap, arith, inr, refl, sym, ◌∙◌}
-use Rattle.std.proofs.Math.Nat.{one-dvd}
+use Rattle.std.proofs.Common.{ap, arith, refl, sym, ◌∙◌}
 use Rattle.std.proofs.lemmas.List.{length-append}
-use Rattle.std.proofs.lemmas.Nat.Gcd.{dvd_trans}
-use Rattle.std.specs.List.{slice_index_or}
-use Rattle.std.specs.Prelude.{List, Some, [], length, map, suc, unsigned_abs, zero, ℕ, ◌+◌, ◌<◌, ◌∷◌, ◌≡◌}
-use lib.IntN.{pos, ◌*ℤ◌}
-use lib.Signed.{lt_z_yes}
-
--- ---- a primitive whole row is that of its fractions over 1
-module _ (x : Row) where
-  denominator_one : (i : ℕ) → (ratio_at (ratios x) i).den ≡ pos 1
-  denominator_one i = ap (λ (r : Ratio). r.den) (ratio_at_ratios x i)
-
-  pub least_one : IsLeastDenominator (ratios x) (length (ratios x)) 1
-  least_one = record {
-    multiples = λ c. (
-      λ d i l. rw denominator_one (one-dvd c),
-      λ h. one-dvd c,
-    );
-  }
-
-pub numerators_whole : (x : Row) → numerators_over 1 (ratios x) ≡ x
-numerators_whole [] = refl
-numerators_whole (k ∷ x) = let h = numerators_whole x in let e : k *ℤ pos 1 ≡ k = simp ring in cc
-
-module _ (x : Row) (primitive : IsPrimitive x) where
-  pub primitive_of_itself : IsPrimitiveOf x x
-  primitive_of_itself = record {
-    cols = refl;
-    divided = inr (pos 1, lt_z_yes tt, record { at = λ i. simp (entry-times, ring) }, primitive);
-  }
-
-  pub primitive_whole : IsPrimitiveRowOf (ratios x) x
-  primitive_whole = record { denominator = 1; least = least_one x; primitive = rw numerators_whole primitive_of_itself }
-
-  pub stands_whole : Stands (ratios x) x
-  stands_whole = record {
-    p = pos 1;
-    q = pos 1;
-    p_positive = lt_z_yes tt;
-    q_positive = lt_z_yes tt;
-    cols = length_ratios x;
-    denominators = λ i l. rw ratio_at_ratios (lt_z_yes tt);
-    same = λ i l. rw ratio_at_ratios (simp ring);
-  }
-
-pub two_whole : (x y : Row) → IsPrimitive x → IsPrimitive y → ArePrimitiveRowsOf (map ratios (x ∷ y ∷ [])) (x ∷ y ∷ [])
-two_whole x y p q = record { count = refl; each = each; multiple = multiple }
-  where
-    each : (i : ℕ) → i < 2 → IsPrimitiveRowOf (slice_index_or (map ratios (x ∷ y ∷ [])) i []) (slice_index_or (x ∷ y ∷ []) i [])
-    each zero l = primitive_whole x p
-    each (suc zero) l = primitive_whole y q
-    each (suc (suc i)) l = absurd (omega arith)
-
-    multiple : (i : ℕ) → i < 2 → Stands (slice_index_or (map ratios (x ∷ y ∷ [])) i []) (slice_index_or (x ∷ y ∷ []) i [])
-    multiple zero l = stands_whole x p
-    multiple (suc zero) l = stands_whole y q
-    multiple (suc (suc i)) l = absurd (omega arith)
-
-pub none_whole : ArePrimitiveRowsOf [] []
-none_whole = record { count = refl; each = λ i l. absurd (omega arith); multiple = λ i l. absurd (omega arith) }
+use Rattle.std.specs.Prelude.{List, [], length, map, ℕ, ◌+◌, ◌∷◌, ◌≡◌}
 
 list_of_two : (n : ℕ) (x y : Row) → IsPrimitive x → IsPrimitive y
     → IsListOf (with_rays n (x ∷ y ∷ [])) LinealitySpace Vertices (x ∷ y ∷ [])
@@ -90,13 +27,10 @@ list_of_two n x y p q = record {
   reads_second = refl;
   xs = [];
   ys = x ∷ y ∷ [];
-  first_primitive = none_whole;
+  first_primitive = none_primitive;
   second_primitive = two_whole x y p q;
   listed = refl;
 }
-
-pub by_one : (x : Row) (i : ℕ) → unsigned_abs (entry x i) ≡ 1 → IsPrimitive x
-by_one x i e = IsPrimitive-from_one x (record { divides = λ d. (λ h j. dvd_trans d h (one-dvd (unsigned_abs (entry x j))), λ f. rw e at (f i)) })
 
 dimension_lost : IsLostList (with_rays 3 (odd_row ∷ odd_next ∷ [])) LinealitySpace Vertices
 dimension_lost = record {
@@ -113,9 +47,6 @@ hull_lost = record {
 }
 
 -- ---- a list of one row
-pub same_rows : (m n : ℕ) (X Y : List (List Ratio)) → Some (matrix m X) ≡ Some (matrix n Y) → X ≡ Y
-same_rows m n X Y e = cc
-
 one_listed : (x : Row) (X : List Row) → IsListOf (with_rays 3 (x ∷ [])) LinealitySpace Vertices X → length X ≡ 1
 one_listed x X h =
     let none : h.first_rows ≡ [] = sym (same_rows 0 h.first_cols [] h.first_rows h.reads_first) in
@@ -123,11 +54,6 @@ one_listed x X h =
     let first : length h.xs ≡ 0 = h.first_primitive.count ∙ ap length none in
     let second : length h.ys ≡ 1 = h.second_primitive.count ∙ ap length one in
     ap length h.listed ∙ (simp length-append (omega arith))
-
-pub one_stays : (n : ℕ) (X : List Row) → length X ≡ 1 → IsLost n X → ⊥
-one_stays n [] e h = omega arith
-one_stays n (x ∷ []) e h = lost_eliminations_are_read.not_one n x h
-one_stays n (x ∷ y ∷ X) e h = omega arith
 
 not_lost : IsLostList (with_rays 3 (odd_row ∷ [])) LinealitySpace Vertices → ⊥
 not_lost h = one_stays 3 h.rows (one_listed odd_row h.rows h.listed) h.lost

@@ -1,7 +1,9 @@
 -- Which parts of a view are lost by wide numbers, and how a wide client that places rays fails.
 use Rattle.pm_client.proofs.Lost.{whatever_evidence}
+use Rattle.pm_client.proofs.NoRows.{none_primitive}
+use Rattle.pm_client.proofs.PrimitiveWholes.{by_one, least_one, numerators_whole, primitive_of_itself, two_whole}
+use Rattle.pm_client.proofs.ReadRows.{same_rows}
 use Rattle.pm_client.specs.Sound.{ArePartsOf, are_parts}
-use Rattle.pm_clients_geom.proofs.LostListExamples.{by_one, none_whole, numerators_whole, least_one, primitive_of_itself, same_rows, two_whole}
 use Rattle.pm_clients_geom.specs.Hulls.{ReadsLostParts}
 use Rattle.pm_clients_geom.specs.LostListExamples.{with_rays}
 use Rattle.pm_clients_geom.specs.LostPartsExamples.{LostPartsAreRead}
@@ -60,7 +62,7 @@ lost = record {
       reads_first = refl;
       reads_second = refl;
       ys = two_rows;
-      first_primitive = none_whole;
+      first_primitive = none_primitive;
       second_primitive = two_whole _ _ (by_one _ 1 refl) (by_one _ 0 refl);
       added = refl;
     };

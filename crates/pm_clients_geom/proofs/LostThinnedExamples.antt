@@ -1,10 +1,11 @@
 -- Which thinnings of a view's rows are lost by wide numbers, and which rows from its sets; and how the wide clients fail.
 use Rattle.pm_vector.proofs.Lists.{among_Contains}
-use Rattle.pm_vector.specs.Divisors.{IsPrimitive}
-use Rattle.pm_vector.specs.Rows.{Row, Stands}
-use Rattle.pm_client.proofs.Lost.{whatever_evidence}
+use Rattle.pm_vector.specs.Rows.{Row}
+use Rattle.pm_client.proofs.Lost.{one_stays, whatever_evidence}
+use Rattle.pm_client.proofs.NoRows.{none_primitive}
+use Rattle.pm_client.proofs.PrimitiveWholes.{by_one, one_whole, two_whole}
+use Rattle.pm_client.proofs.ReadRows.{same_rows}
 use Rattle.pm_client.specs.Sound.{ReadsMatrix, added_rows, are_parts, sets_of_rows}
-use Rattle.pm_clients_geom.proofs.LostListExamples.{by_one, none_whole, one_stays, primitive_whole, same_rows, stands_whole, two_whole}
 use Rattle.pm_clients_geom.specs.LostThinnedExamples.{LostThinnedAreRead, one_facet, one_ray, with_inequalities, with_points, with_sets, with_values}
 use Rattle.pm_clients_geom.specs.Thinned.{ReadsLostRows, ReadsLostSets}
 use Rattle.pm_elim.proofs.LostExamples.{lost_eliminations_are_read}
@@ -13,7 +14,6 @@ use Rattle.pm_elim.specs.LostExamples.{odd_next, odd_row, one_entry, two_rows}
 use Rattle.pm_incidence.proofs.LostExamples.{lost_thinning_is_read}
 use Rattle.pm_incidence.specs.Lost.{SetsAreLost, ThinningIsLost}
 use Rattle.pm_incidence.specs.LostExamples.{first_unit}
-use Rattle.pm_matrix.specs.FractionRows.{ArePrimitiveRowsOf, IsPrimitiveRowOf}
 use Rattle.pm_object.specs.Reading.{fact_of}
 use Rattle.pm_object_type.specs.declared.object_type.ObjectType.TheVariants.{Cone}
 use Rattle.pm_props.specs.declared.property.PropId.{PropId}
@@ -22,19 +22,7 @@ use Rattle.pm_types.specs.Values.{Fact, IndexSets, sets}
 use Rattle.pm_types.specs.Views.{ratios}
 use Rattle.std.proofs.Common.{ap, arith, inl, inr, refl, sym, ◌∙◌}
 use Rattle.std.proofs.lemmas.List.{length-append}
-use Rattle.std.specs.List.{slice_index_or}
-use Rattle.std.specs.Prelude.{IsTrue, List, Some, [], length, map, suc, zero, ℕ, ◌+◌, ◌++◌, ◌<◌, ◌∷◌, ◌≡◌}
-
-one_whole : (x : Row) → IsPrimitive x → ArePrimitiveRowsOf (map ratios (x ∷ [])) (x ∷ [])
-one_whole x p = record { count = refl; each = each; multiple = multiple }
-  where
-    each : (i : ℕ) → i < 1 → IsPrimitiveRowOf (slice_index_or (map ratios (x ∷ [])) i []) (slice_index_or (x ∷ []) i [])
-    each zero l = primitive_whole x p
-    each (suc i) l = absurd (omega arith)
-
-    multiple : (i : ℕ) → i < 1 → Stands (slice_index_or (map ratios (x ∷ [])) i []) (slice_index_or (x ∷ []) i [])
-    multiple zero l = stands_whole x p
-    multiple (suc i) l = absurd (omega arith)
+use Rattle.std.specs.Prelude.{IsTrue, List, Some, [], length, map, ℕ, ◌+◌, ◌++◌, ◌∷◌, ◌≡◌}
 
 -- ---- rows that are thinned
 -- one line, and no row to be reduced
@@ -86,7 +74,7 @@ module _ (first second : PropId) (s : IndexSets) (parts : IsTrue (are_parts firs
     in_sets = sets_of_rows second s;
     read = record {
       parts = parts;
-      equations = record { cols = 2; rows = []; reads = reads_first; primitive = none_whole };
+      equations = record { cols = 2; rows = []; reads = reads_first; primitive = none_primitive };
       inequalities = record { cols = 2; rows = map ratios two_rows; reads = reads_second; primitive = two_whole _ _ (by_one _ 1 refl) (by_one _ 0 refl) };
       index = s;
       reads = reads_sets;

@@ -1,26 +1,22 @@
 -- Which sites of a view are lost by wide numbers, and how a wide client fails.
 use Rattle.pm_client.proofs.Lost.{whatever_evidence}
+use Rattle.pm_client.proofs.PrimitiveWholes.{by_one, one_whole}
+use Rattle.pm_client.proofs.ReadRows.{same_rows}
 use Rattle.pm_clients_lift.specs.LiftedSites.{AreReadHeights, AreReadSites, ReadsLostDelaunaySites, ReadsLostSites}
 use Rattle.pm_clients_lift.specs.LostExamples.{LostSitesAreRead, with_sites}
 use Rattle.pm_lift.proofs.LostExamples.{lost_cells_are_read}
-use Rattle.pm_lift.proofs.SmallRows.{at_one, gcd_one}
 use Rattle.pm_lift.specs.Examples.{far, greatest, one_half, pair, ratio_of}
 use Rattle.pm_lift.specs.Lost.{LiftingIsLost, RaisingIsLost}
-use Rattle.pm_matrix.specs.FractionRows.{ArePrimitiveRowsOf, IsLeastDenominator, IsPrimitiveRowOf}
+use Rattle.pm_matrix.specs.FractionRows.{ArePrimitiveRowsOf}
 use Rattle.pm_matrix.specs.Matrices.{IsFraction}
-use Rattle.pm_types.proofs.WholeRows.{length_ratios, ratio_at_ratios}
-use Rattle.pm_types.specs.Values.{matrix}
 use Rattle.pm_types.specs.Views.{ratios}
-use Rattle.pm_vector.proofs.DivisorLaws.{IsPrimitiveOf-from_one}
-use Rattle.pm_vector.proofs.Ring.{ring}
 use Rattle.pm_vector.specs.Numbers.{Ratio}
-use Rattle.pm_vector.specs.Rows.{Row, Stands, entry, ratio_at}
+use Rattle.pm_vector.specs.Rows.{Row, entry}
 use Rattle.std.proofs.Common.{ap, arith, refl, sym, ◌∙◌}
 use Rattle.std.proofs.Math.Nat.{one-dvd}
 use Rattle.std.proofs.lemmas.Int.{ints}
 use Rattle.std.proofs.lemmas.List.Elements.{All-cons, All-nil}
-use Rattle.std.specs.List.{slice_index_or}
-use Rattle.std.specs.Prelude.{List, Some, [], length, map, ℕ, ◌∷◌, ◌≡◌}
+use Rattle.std.specs.Prelude.{List, [], length, map, ◌∷◌, ◌≡◌}
 use lib.IntN.{pos}
 use lib.Signed.{lt_z_yes, ◌<ℤ◌}
 
@@ -28,37 +24,8 @@ use lib.Signed.{lt_z_yes, ◌<ℤ◌}
 abbrev site : Row
 site = pair (pos 1) greatest
 
-denominator_one : (i : ℕ) → (ratio_at (ratios site) i).den ≡ pos 1
-denominator_one i = ap (λ (r : Ratio). r.den) (ratio_at_ratios site i)
-
-least_one : IsLeastDenominator (ratios site) 2 1
-least_one = record {
-  multiples = λ c. (
-    λ d i l. rw denominator_one (one-dvd c),
-    λ h. one-dvd c,
-  );
-}
-
-primitive : IsPrimitiveRowOf (ratios site) site
-primitive = record { denominator = 1; least = least_one; primitive = IsPrimitiveOf-from_one site (gcd_one site 0 refl) }
-
-stands : Stands (ratios site) site
-stands = record {
-  p = pos 1;
-  q = pos 1;
-  p_positive = lt_z_yes tt;
-  q_positive = lt_z_yes tt;
-  cols = length_ratios site;
-  denominators = λ i l. rw (ratio_at_ratios site i) (lt_z_yes tt);
-  same = λ i l. rw (ratio_at_ratios site i) (simp ring);
-}
-
 far_primitive : ArePrimitiveRowsOf (map ratios far) far
-far_primitive = record {
-  count = refl;
-  each = at_one (λ i. IsPrimitiveRowOf (slice_index_or (map ratios far) i []) (slice_index_or far i [])) primitive;
-  multiple = at_one (λ i. Stands (slice_index_or (map ratios far) i []) (slice_index_or far i [])) stands;
-}
+far_primitive = one_whole site (by_one site 0 refl)
 
 read_sites : AreReadSites (with_sites 2 far one_half) far
 read_sites = record {
@@ -91,9 +58,6 @@ lost_delaunay : ReadsLostDelaunaySites (with_sites 2 far one_half)
 lost_delaunay = record { sites = far; read_sites = read_sites; lost = lost_cells_are_read.raising }
 
 -- ---- no sites
-same_rows : (m n : ℕ) (X Y : List (List Ratio)) → Some (matrix m X) ≡ Some (matrix n Y) → X ≡ Y
-same_rows m n X Y e = cc
-
 no_sites : (X : List Row) → AreReadSites (with_sites 0 [] []) X → length X ≡ 0
 no_sites X s = s.rows.primitive.count ∙ ap length (sym (same_rows 0 s.rows.cols [] s.rows.rows s.rows.reads))
 
