@@ -37,6 +37,17 @@ impl BitRow {
         Ok(BitRow { len, words })
     }
 
+    /// A row of the same members.
+    pub fn copy(&self, alloc: Global) -> Result<BitRow, AllocError>
+        ensures { IfOk result (λ row. row ≡ self.now) }
+    {
+        let words = Vec::from_slice(alloc, &self.words)?;
+        Ok(BitRow {
+            len: self.len,
+            words,
+        })
+    }
+
     /// How many numbers may be members: those below this.
     pub fn len(&self) -> usize
         ensures { result ≡ length self.now }

@@ -1,6 +1,6 @@
 // A list of rows of one length.
-ghost use Rattle.std.specs.Prelude.{◌≡◌, ◌≢◌, ℕ, ◌<◌, ◌≤◌, ◌↔◌, ◌++◌, [], ◌∷◌, IsTrue, OnOk, OnErr, IfErr, length, take};
-ghost use Rattle.std.specs.List.{swap};
+ghost use Rattle.std.specs.Prelude.{◌≡◌, ◌≢◌, ℕ, ◌<◌, ◌≤◌, ◌↔◌, ◌++◌, [], ◌∷◌, IsTrue, IfOk, OnOk, OnErr, IfErr, length, take};
+ghost use Rattle.std.specs.List.{All, swap};
 ghost use Rattle.pm_bits.specs.Folds.{IsFold};
 ghost use Rattle.pm_bits.specs.Sets.{has, IsSubset, common_count};
 ghost use Rattle.pm_bits.specs.Table.{row_at, Implies, OtherContains};
@@ -126,6 +126,24 @@ impl BitTable {
     {
         self.rows.truncate(len);
         self.folds.truncate(len);
+    }
+
+    /// A table of these rows, each of length `row_len`.
+    pub fn from_rows(
+        alloc: Global,
+        rows: Vec<BitRow>,
+        row_len: usize,
+    ) -> Result<BitTable, AllocError>
+        requires { All (λ row. length row ≡ row_len) rows.items }
+        ensures { IfOk result (λ table. table ≡ record { row_len = row_len; rows = rows.items }) }
+    {
+        let mut table = BitTable::new(alloc, row_len);
+        for row in rows {
+            let Ok(()) = table.push(row) else {
+                return Err(AllocError);
+            };
+        }
+        Ok(table)
     }
 
     /// Moves the rows of another table to the end. Where memory lacks the table is as it was.

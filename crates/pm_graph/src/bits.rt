@@ -79,19 +79,3 @@ pub(crate) fn columns_of(
     }
     Ok(rows)
 }
-
-/// A table of these rows, each of length `len`.
-pub(crate) fn table_from(
-    alloc: Global,
-    rows: Vec<BitRow>,
-    len: usize,
-) -> Result<BitTable, AllocError>
-    requires { HaveLength len rows.items }
-    ensures { IfOk result (λ table. table ≡ record { row_len = len; rows = rows.items }) }
-{
-    let mut table = BitTable::new(alloc, len);
-    for row in rows {
-        push_row(&mut table, row)?;
-    }
-    Ok(table)
-}

@@ -6,7 +6,7 @@ ghost use Rattle.pm_graph.specs.Levels.{AreBelow};
 ghost use Rattle.pm_graph.specs.Slices.{rows_of};
 ghost use Rattle.std.specs.Prelude.{IfOk, IsTrue, length, ◌<◌, ◌^◌, ◌↔◌, ◌≡◌};
 
-use crate::bits::{columns_of, table_from, table_of};
+use crate::bits::{columns_of, table_of};
 use pm_bits::{BitRow, BitTable};
 use pm_types::Sets;
 use std::alloc::{AllocError, Global};
@@ -90,7 +90,7 @@ pub fn graph_of_sets(alloc: Global, s: &Sets) -> Result<Sets, AllocError>
     ensures cols { IfOk result (λ g. g.cols ≡ s.now.cols) }
 {
     let columns = columns_of(alloc, s.rows(), s.cols() as usize)?;
-    let table = table_from(alloc, columns, s.rows().len())?;
+    let table = BitTable::from_rows(alloc, columns, s.rows().len())?;
     let rows = graph_of_table(alloc, &table)?;
     Ok(Sets::from_vec(rows, s.cols()))
 }

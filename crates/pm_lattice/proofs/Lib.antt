@@ -6,6 +6,7 @@ pub mod Parts
 pub mod Keys
 pub mod Opening
 pub mod Closing
+pub mod Reordered
 pub mod Ranking
 pub mod Places
 pub mod RankTurns

@@ -3,6 +3,8 @@ ghost use Rattle.pm_bits.specs.Sets.{has};
 ghost use Rattle.pm_lattice.specs.Closures.{IsClosureOf};
 ghost use Rattle.pm_lattice.specs.Parts.{AreOpen, HasOpened, IsOpening, OpensFrom, OpensParts};
 ghost use Rattle.std.specs.BTreeMap.{keys};
+ghost use Rattle.std.specs.List.{All};
+ghost use Rattle.std.specs.List.Sorted.{IsPermutation};
 ghost use Rattle.std.specs.Prelude.{ℕ, ◌<◌, ◌≡◌, IfOk, IsTrue, OnOk, length};
 
 use pm_bits::{BitRow, BitTable};
@@ -76,9 +78,9 @@ fn open_parts(
     Ok(())
 }
 
-/// Closes the rows of a table under intersection: from the set of all places on, the first open face is
-/// settled and its parts are opened. Beside an open face stands the place of the first row that is tried on it.
-pub(crate) fn close(alloc: Global, rows: &BitTable) -> Result<Closure, AllocError>
+// Closes the rows of a table under intersection: from the set of all places on, the first open face is settled and its
+// parts are opened. Beside an open face stands the place of the first row that is tried on it.
+fn close_rows(alloc: Global, rows: &BitTable) -> Result<Closure, AllocError>
     ensures { IfOk result (IsClosureOf rows.now) }
 {
     let mut pending = BTreeMap::new(alloc);
@@ -93,4 +95,36 @@ pub(crate) fn close(alloc: Global, rows: &BitTable) -> Result<Closure, AllocErro
         faces.push(face)?;
     }
     Ok(Closure::Many(faces))
+}
+
+// The rows of a table, copied.
+fn copies_of(alloc: Global, rows: &BitTable) -> Result<Vec<BitRow>, AllocError>
+    ensures lengths { IfOk result (λ list. All (λ row. length row ≡ rows.now.row_len) list.items) }
+    ensures rows { IfOk result (λ list. list.items ≡ rows.now.rows) }
+{
+    let mut list = Vec::with_capacity(alloc, rows.len())?;
+    for place in 0..rows.len() {
+        list.push(rows.row(place).copy(alloc)?)?;
+    }
+    Ok(list)
+}
+
+// The rows of a table, the greatest first.
+fn greatest_first(alloc: Global, rows: &BitTable) -> Result<BitTable, AllocError>
+    ensures row_len { IfOk result (λ table. table.row_len ≡ rows.now.row_len) }
+    ensures rows { IfOk result (λ table. IsPermutation rows.now.rows table.rows) }
+{
+    let mut list = copies_of(alloc, rows)?;
+    list.sort_unstable();
+    list.reverse();
+    BitTable::from_rows(alloc, list, rows.row_len())
+}
+
+/// Closes the rows of a table under intersection. The greatest rows are tried first: so what a row opens is mostly the
+/// first of the open faces, and few are open at once.
+pub(crate) fn close(alloc: Global, rows: &BitTable) -> Result<Closure, AllocError>
+    ensures { IfOk result (IsClosureOf rows.now) }
+{
+    let ordered = greatest_first(alloc, rows)?;
+    close_rows(alloc, &ordered)
 }

@@ -1,5 +1,5 @@
 use Rattle.pm_lattice.proofs.Closing.{Closing}
-use Rattle.pm_lattice.proofs.closure.close.Given as goal
+use Rattle.pm_lattice.proofs.closure.close_rows.Given as goal
 use Rattle.pm_lattice.specs.Parts.{AreOpen}
 use Rattle.std.proofs.Common.{length, ◌≡◌}
 use Rattle.std.specs.BTreeMap.{keys}
