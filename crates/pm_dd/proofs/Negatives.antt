@@ -2,7 +2,7 @@
 use Rattle.std.specs.Prelude.{ℕ, ◌+◌, ◌≡◌, ◌<◌, ◌≤◌, Bool, List, [], ◌∷◌, ◌++◌, length, get_or, take, drop}
 use Rattle.std.proofs.Common.{arith, sym, subst, ap, ◌∙◌, inl, inr}
 use Rattle.std.proofs.lemmas.Bool.{cases_lt}
-use Rattle.std.proofs.lemmas.List.{drop_all, drop_more, get_or_read}
+use Rattle.std.proofs.lemmas.List.{drop_all, drop_more}
 use Rattle.pm_vector.specs.Rows.{Row, entry}
 use Rattle.pm_vector.specs.Bases.{row_at}
 use Rattle.pm_dd.specs.Description.{Source, kept, pair, IsSource}
@@ -50,10 +50,6 @@ pub record IsRowBuilt (n : ℕ) (E J : List Row) (f : ℕ) (V : List Row) (v : L
 -- the place that comes next, and those after it
 pub row_next : (n : ℕ) (E J : List Row) (f : ℕ) (V : List Row) (v : List ℤ) (i : ℕ) (js : List ℕ) (W : List Row) (Y : List (List Bool)) → (k j : ℕ) → k < length js → get_or js k 0 ≡ j → IsRowBuilt n E J f V v i (drop k js) W Y → IsRowBuilt n E J f V v i (j ∷ drop (k + 1) js) W Y
 row_next n E J f V v i js W Y k j l e b = subst (λ (ks : List ℕ). IsRowBuilt n E J f V v i ks W Y) (drop_more js k 0 l ∙ ap (λ (m : ℕ). m ∷ drop (k + 1) js) e) b
-
--- the place that is read there
-pub row_read : (n : ℕ) (E J : List Row) (f : ℕ) (V : List Row) (v : List ℤ) (i : ℕ) (js : List ℕ) (W : List Row) (Y : List (List Bool)) → (k j : ℕ) → k < length js → j ≡ get_or js k j → IsRowBuilt n E J f V v i (drop k js) W Y → IsRowBuilt n E J f V v i (j ∷ drop (k + 1) js) W Y
-row_read n E J f V v i js W Y k j l is b = row_next n E J f V v i js W Y k j l (sym (get_or_read js k j l is 0)) b
 
 module _ (n : ℕ) (E J : List Row) (f : ℕ) (V : List Row) (v : List ℤ) (stand : StandFor (row_at J f) V v) (i : ℕ) where
   -- pairs that are no sources are passed over

@@ -146,7 +146,10 @@ pub(crate) fn few_rays(alloc: Global, rows: &[Ints], cols: usize, wide: bool) ->
     };
     match rays_within(alloc, &sorted, cols, wide, rows.len()) {
         Ok(found) => found,
-        Err(_) => None,
+        Err(refused) => {
+            drop(refused);
+            None
+        }
     }
 }
 
@@ -171,7 +174,10 @@ pub(crate) fn rays_of(
     match stated_rays(alloc, &mixed, cols, wide) {
         Ok(found) => Ok(found),
         Err(DdFail::Memory) => Err(DdFail::Memory),
-        Err(_) => stated_rays(alloc, rows, cols, wide),
+        Err(refused) => {
+            drop(refused);
+            stated_rays(alloc, rows, cols, wide)
+        }
     }
 }
 

@@ -1,21 +1,22 @@
 // The combinations of adjacent pairs of rays.
 
 ghost use Rattle.pm_vector.specs.Cones.{InSpan};
-ghost use Rattle.pm_vector.specs.Rows.{HasCols, dot};
+ghost use Rattle.pm_bits.specs.Sets.{IsSubset};
+ghost use Rattle.pm_vector.specs.Rows.{HasCols, dot, entry};
 ghost use Rattle.pm_vector.specs.Bases.{IsRank, row_at};
-ghost use Rattle.pm_dd.specs.Building.{IsBuilt, IsNoPair, IsPair, IsPairRay, StandFor, kept_count};
+ghost use Rattle.pm_dd.specs.Building.{AreNegativesLeft, IsBuilt, IsNoPair, IsPair, IsPairRay, IsPassed, StandFor, kept_count};
 ghost use Rattle.pm_dd.specs.Lost.{IfStepLost, IsLostSource, IsLostTablePair};
 ghost use Rattle.pm_dd.specs.StepFails.{IsPairFailOf, IsStepFail};
-ghost use Rattle.pm_dd.specs.Tables.{IsRayTable};
+ghost use Rattle.pm_dd.specs.Tables.{IsRayTable, zero_set};
 ghost use Rattle.pm_geom.specs.Faces.{ray};
-ghost use Rattle.std.specs.Prelude.{IfErr, IfNone, IfOk, IfSome, length, pos, take, true, ◌++◌, ◌+◌, ◌-◌, ◌<ℤ◌, ◌<◌, ◌≡◌, ◌≤◌};
+ghost use Rattle.std.specs.Prelude.{IfErr, IfNone, IfOk, IfSome, length, pos, take, true, ℕ, ◌++◌, ◌+◌, ◌-◌, ◌<ℤ◌, ◌<◌, ◌≡◌, ◌≤◌};
 
 use crate::combination::combination_of;
 use crate::fails::{CombinationFail, StepFail};
 use crate::many::{count_kept, too_many};
-use crate::near::{near_negatives, unions_of};
+use crate::near::{Unions, near_negatives, unions_of};
 use crate::rays::{Ray, Rays};
-use pm_bits::{BitRow, BitTable};
+use pm_bits::BitRow;
 use pm_limits::MOST_ROWS;
 use pm_vector::Ints;
 use std::alloc::Global;
@@ -90,6 +91,82 @@ pub(crate) fn pair_ray(
     Ok(Some(Ray { row: made, zeros }))
 }
 
+/// The combinations of the adjacent pairs of a ray ahead with one of the near rays behind.
+fn near_pairs(
+    alloc: Global,
+    cols: usize,
+    equations: &[Ints],
+    rows: &[Ints],
+    front: usize,
+    rank: usize,
+    rays: &Rays,
+    values: &[i128],
+    need: usize,
+    unions: &Unions,
+    negatives: &[usize],
+    wide: bool,
+) -> Result<Rays, StepFail>
+    requires equation_cols { HasCols cols equations.now }
+    requires row_cols { HasCols cols rows.now }
+    requires within { front < length rows.now }
+    requires spanned { InSpan (equations.now ++ take front rows.now) (row_at rows.now front) }
+    requires rank { IsRank (equations.now ++ take front rows.now) rank }
+    requires table { IsRayTable cols equations.now rows.now front rays.now.rows.items rays.now.zeros.rows }
+    requires old_len { rays.now.zeros.row_len ≡ length rows.now }
+    requires stand { StandFor (row_at rows.now front) rays.now.rows.items values.now }
+    requires few { length rays.now.rows.items ≤ MOST_ROWS }
+    requires need { need ≡ rank - length equations.now - 2 }
+    requires behind_len { length unions.now.behind ≡ rays.now.zeros.row_len }
+    requires ahead { (k : ℕ) → k < length values.now → pos 0 <ℤ entry values.now k
+        → IsSubset (zero_set rays.now.zeros.rows k) unions.now.ahead }
+    requires behind { (k : ℕ) → k < length values.now → entry values.now k <ℤ pos 0
+        → IsSubset (zero_set rays.now.zeros.rows k) unions.now.behind }
+    requires negatives { AreNegativesLeft (IsPassed rays.now.zeros values.now unions.now.ahead need) values.now 0
+        (length values.now) negatives.now }
+    ensures row_len { IfOk result (λ r. r.zeros.row_len ≡ length rows.now) }
+    ensures few { IfOk result (λ r. kept_count values.now + length r.rows.items ≤ MOST_ROWS) }
+    ensures built { IfOk result (λ r. IsBuilt cols equations.now rows.now front rays.now.rows.items IsPair
+        r.rows.items r.zeros.rows) }
+    ensures wide { IfErr result (λ f. IsStepFail cols equations.now rows.now front rays.now.rows.items f) }
+    ensures lost { wide ≡ true → IfErr result (λ f.
+        IfStepLost f (IsLostSource rows.now front rays.now.rows.items)) }
+{
+    let mut both = BitRow::with_len(alloc, rows.len())?;
+    let kept = count_kept(values);
+    let mut made = Rays::new(alloc, rows.len());
+    for i in 0..rays.rows.len() {
+        if values[i] <= 0 {
+            continue;
+        }
+        if rays.zeros.common_count_with(i, &unions.behind) < need {
+            continue;
+        }
+        for k in 0..negatives.len() {
+            let j = negatives[k];
+            let ray = match pair_ray(
+                alloc,
+                &rows[front],
+                rays,
+                i,
+                j,
+                values,
+                front,
+                need,
+                &mut both,
+                wide,
+            )? {
+                Some(ray) => ray,
+                None => continue,
+            };
+            made.add(ray)?;
+            if kept + made.rows.len() > MOST_ROWS {
+                return Err(too_many(alloc, cols, equations, rows, front, rays, values, made.rows)?);
+            }
+        }
+    }
+    Ok(made)
+}
+
 /// The combinations of all adjacent pairs, with their zero sets for the next front.
 pub(crate) fn paired_rays(
     alloc: Global,
@@ -122,42 +199,7 @@ pub(crate) fn paired_rays(
     let need = needed(rank, equations.len());
     let unions = unions_of(alloc, &rays.zeros, values)?;
     let negatives = near_negatives(alloc, &rays.zeros, values, &unions.ahead, need)?;
-    let mut both = BitRow::with_len(alloc, rows.len())?;
-    let kept = count_kept(values);
-    let mut next = Vec::new(alloc);
-    let mut zeros = BitTable::new(alloc, rows.len());
-    for i in 0..rays.rows.len() {
-        if values[i] <= 0 {
-            continue;
-        }
-        if rays.zeros.common_count_with(i, &unions.behind) < need {
-            continue;
-        }
-        for k in 0..negatives.len() {
-            let j = negatives[k];
-            let ray = match pair_ray(
-                alloc,
-                &rows[front],
-                rays,
-                i,
-                j,
-                values,
-                front,
-                need,
-                &mut both,
-                wide,
-            )? {
-                Some(ray) => ray,
-                None => continue,
-            };
-            next.push(ray.row)?;
-            let Ok(()) = zeros.push(ray.zeros) else {
-                return Err(StepFail::Memory);
-            };
-            if kept + next.len() > MOST_ROWS {
-                return Err(too_many(alloc, cols, equations, rows, front, rays, values, next)?);
-            }
-        }
-    }
-    Ok(Rays { rows: next, zeros })
+    near_pairs(
+        alloc, cols, equations, rows, front, rank, rays, values, need, &unions, &negatives, wide,
+    )
 }
