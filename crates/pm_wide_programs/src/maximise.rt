@@ -31,9 +31,16 @@ pub fn maximise_rows_by(
 {
     match maximise_rows(alloc, inequalities, equations, objective) {
         Err(LpFail::Wide(evidence)) if wide => {
-            match wide_answer(alloc, inequalities, equations, objective)? {
-                Some(answer) => Ok(answer),
-                None => Err(LpFail::Wide(evidence)),
+            match wide_answer(alloc, inequalities, equations, objective) {
+                Ok(Some(answer)) => {
+                    drop(evidence);
+                    Ok(answer)
+                }
+                Ok(None) => Err(LpFail::Wide(evidence)),
+                Err(e) => {
+                    drop(evidence);
+                    Err(LpFail::from(e))
+                }
             }
         }
         other => other,
