@@ -4,9 +4,9 @@ ghost use Rattle.pm_vector.specs.Cones.{InSpan};
 ghost use Rattle.pm_bits.specs.Sets.{IsSubset};
 ghost use Rattle.pm_vector.specs.Rows.{HasCols, dot, entry};
 ghost use Rattle.pm_vector.specs.Bases.{IsRank, row_at};
-ghost use Rattle.pm_dd.specs.Building.{AreNegativesLeft, IsBuilt, IsNoPair, IsPair, IsPairRay, IsPassed, StandFor, kept_count};
+ghost use Rattle.pm_dd.specs.Building.{AreNegativesLeft, IsBuilt, IsCombination, IsNoPair, IsPair, IsPairRay, IsPassed, StandFor, kept_count};
 ghost use Rattle.pm_dd.specs.Lost.{IfStepLost, IsLostSource, IsLostTablePair};
-ghost use Rattle.pm_dd.specs.StepFails.{IsPairFailOf, IsStepFail};
+ghost use Rattle.pm_dd.specs.StepFails.{IsPairFailOf, IsStepFail, IsTablePair};
 ghost use Rattle.pm_dd.specs.Tables.{IsRayTable, zero_set};
 ghost use Rattle.pm_geom.specs.Faces.{ray};
 ghost use Rattle.std.specs.Prelude.{IfErr, IfNone, IfOk, IfSome, length, pos, take, true, ℕ, ◌++◌, ◌+◌, ◌-◌, ◌<ℤ◌, ◌<◌, ◌≡◌, ◌≤◌};
@@ -26,6 +26,49 @@ fn needed(rank: usize, equations: usize) -> usize
     ensures { result ≡ rank - equations - 2 }
 {
     rank.saturating_sub(equations).saturating_sub(2)
+}
+
+/// The combination of a pair of the table that is kept apart by the row.
+fn combined(
+    alloc: Global,
+    row: &Ints,
+    rays: &Rays,
+    i: usize,
+    j: usize,
+    values: &[i128],
+    wide: bool,
+) -> Result<Ints, StepFail>
+    requires first { i < length rays.now.rows.items }
+    requires second { j < length rays.now.rows.items }
+    requires cols { HasCols (length row.now) rays.now.rows.items }
+    requires stand { StandFor row.now rays.now.rows.items values.now }
+    requires up { pos 0 <ℤ dot row.now (ray rays.now.rows.items i) }
+    requires pair { IsTablePair rays.now.zeros i j }
+    ensures combination { IfOk result (IsCombination row.now (ray rays.now.rows.items i)
+        (ray rays.now.rows.items j)) }
+    ensures wide { IfErr result (λ f. IsPairFailOf row.now rays.now.rows.items rays.now.zeros i j f) }
+    ensures lost { wide ≡ true → IfErr result (λ f.
+        IfStepLost f (IsLostTablePair row.now rays.now.rows.items rays.now.zeros i j)) }
+{
+    match combination_of(
+        alloc,
+        row,
+        &rays.rows[i],
+        values[i],
+        &rays.rows[j],
+        values[j],
+        wide,
+    ) {
+        Ok(made) => Ok(made),
+        Err(CombinationFail::First) => Err(StepFail::Product(i)),
+        Err(CombinationFail::Second) => Err(StepFail::Product(j)),
+        Err(CombinationFail::Column(column)) => Err(StepFail::Pair {
+            first: i,
+            second: j,
+            column,
+        }),
+        Err(CombinationFail::NoMemory) => Err(StepFail::Memory),
+    }
 }
 
 /// The combination of a pair of rays with what their zero sets have in common, if the pair is adjacent.
@@ -66,25 +109,7 @@ pub(crate) fn pair_ray(
     if rays.zeros.other_contains(both, i, j) {
         return Ok(None);
     }
-    let made = match combination_of(
-        alloc,
-        row,
-        &rays.rows[i],
-        values[i],
-        &rays.rows[j],
-        values[j],
-        wide,
-    ) {
-        Ok(made) => made,
-        Err(CombinationFail::First) => return Err(StepFail::Product(i)),
-        Err(CombinationFail::Second) => return Err(StepFail::Product(j)),
-        Err(CombinationFail::Column(column)) => return Err(StepFail::Pair {
-            first: i,
-            second: j,
-            column,
-        }),
-        Err(CombinationFail::NoMemory) => return Err(StepFail::Memory),
-    };
+    let made = combined(alloc, row, rays, i, j, values, wide)?;
     let mut zeros = BitRow::with_len(alloc, both.len())?;
     both.meet_into(both, &mut zeros);
     zeros.set(front);
