@@ -1,7 +1,8 @@
 use Rattle.pm_vector.specs.Rows.{dot}
 use Rattle.pm_vector.specs.Bases.{row_at}
 use Rattle.pm_optima.proofs.Levels.{scale_of}
-use Rattle.pm_optima.proofs.Optima.{endless_optimum, finite_optimum, line_product, none_optimum, turned_length, wide_optimum}
+use Rattle.pm_optima.proofs.Lists.{some_entries}
+use Rattle.pm_optima.proofs.Optima.{endless_optimum, finite_optimum, line_product, none_optimum, ray_product, turned_length, wide_optimum}
 use Rattle.pm_optima.proofs.rays.value_at_rays.Goals as goal
 use Rattle.pm_optima.specs.Quotients.{Grows, HasNone, IsBest}
 use Rattle.pm_simplex.specs.Senses.{row_in}
@@ -55,3 +56,17 @@ returns-clause-wide c =
     let row : c.index-rays-best.result ≡ row_at c.args.rays.now c.in-Some.best.place = get_or_read c.args.rays.now c.in-Some.best.place c.index-rays-best.result best.within c.index-rays-best.is [] in
     wide_optimum c.args.sense c.args.objective.now c.in_ok-row.row c.scale.result c.scale.ensures c.args.rays.now c.args.lines.now c.requires.ray_cols c.requires.line_cols c.requires.ahead c.requires.level
     c.in-Some.best best ends c.in_ok-row.ensures.primitive c.in-Err.ensures.wide c.in_ok-wide_pair-in-Err.field-0 (rw row at c.in_ok-wide_pair-in-Err.ensures)
+
+pub products-requires : goal.products-requires
+products-requires c = record { cols = rw c.in_ok-row.ensures.stands.cols c.requires.ray_cols }
+
+pub greatest_quotient-requires-clause-cols : goal.greatest_quotient-requires-clause-cols
+greatest_quotient-requires-clause-cols c = some_entries (length c.args.objective.now) c.args.rays.now c.requires.some c.requires.ray_cols
+
+pub grows-requires-clause-cols : goal.grows-requires-clause-cols
+grows-requires-clause-cols c = some_entries (length c.args.objective.now) c.args.rays.now c.requires.some c.requires.ray_cols
+
+pub returns-in_err-at_rays-clause-wide : goal.returns-in_err-at_rays-clause-wide
+returns-in_err-at_rays-clause-wide c =
+    let p = err_from_is_err_and c.from_residual-in_err-at_rays.result c.from_residual-in_err-at_rays.ensures.1 in
+    rw (p.1, p.2) (ray_product c.args.sense c.args.objective.now c.in_ok-row.row c.args.rays.now c.args.lines.now c.in_ok-row.ensures.primitive c.in_err-at_rays.field-0.0 c.in_err-at_rays.ensures.wide)
