@@ -4,9 +4,11 @@ use Rattle.std.proofs.Common.{inl, inr, refl, sym, subst}
 use Rattle.pm_vector.specs.Rows.{Row, dot}
 use Rattle.pm_vector.specs.Bases.{row_at}
 use Rattle.pm_bits.specs.Table.{Table}
-use Rattle.pm_dd.specs.Lost.{IfStepLost, IsLostSource, IsLostTablePair}
+use Rattle.pm_dd.specs.Lost.{IfCombinationLost, IfStepLost, IsLostSource, IsLostTablePair}
 use Rattle.pm_dd.specs.StepFails.{IfProduct, IsPairFailOf, IsStepFail, IsTablePair, IsWideSource}
 use Rattle.pm_dd.specs.Tables.{IsRayTable}
+use Rattle.pm_dd.specs.declared.fails.CombinationFail.{CombinationFail}
+use Rattle.pm_dd.specs.declared.fails.CombinationFail.TheVariants as combination
 use Rattle.pm_dd.specs.declared.fails.StepFail.{StepFail}
 use Rattle.pm_dd.specs.declared.fails.StepFail.TheVariants.{Product, Pair, Many, Memory}
 use Rattle.pm_dd.proofs.Tables.{scan_is_right}
@@ -14,6 +16,13 @@ use Rattle.pm_geom.specs.Faces.{ray}
 use Rattle.pm_geom.specs.RayEvidence.{IsWideCombination}
 use lib.IntN.{pos}
 use lib.Signed.{◌<ℤ◌}
+
+-- what holds anyway holds where a combination is given up
+pub combination_lost : (f : CombinationFail) (Q : Type 0) → Q → IfCombinationLost f Q
+combination_lost combination.First Q h = h
+combination_lost combination.Second Q h = h
+combination_lost (combination.Column c) Q h = h
+combination_lost combination.NoMemory Q h = tt
 
 module _ (n : ℕ) (E J : List Row) (f : ℕ) (V : List Row) (table : Table) (t : IsRayTable n E J f V table.rows) (i j : ℕ) (li : i < length V) (lj : j < length V) (up : pos 0 <ℤ dot (row_at J f) (ray V i)) (down : dot (row_at J f) (ray V j) <ℤ pos 0) where
   wide_source : (c : ℕ) → IsTablePair table i j → IsWideCombination (row_at J f) (ray V i) (ray V j) c → IsWideSource J f V i j c
