@@ -8,6 +8,7 @@ use Rattle.pm_vector.specs.Bases.{IsEchelonBasis, column, row_at}
 use Rattle.pm_elim.proofs.ExtendedLaws.{length-unit}
 use Rattle.pm_elim.proofs.PrefixLaws.{at_most_columns}
 use Rattle.pm_elim.specs.Evidence.{IfWide, IsEvidence, unit}
+use Rattle.pm_elim.specs.Lost.{IsLostOnExtended}
 use Rattle.pm_elim.specs.NullSpaces.{IsNullBasis}
 use Rattle.pm_elim.specs.declared.evidence.ElimFail.{ElimFail}
 use Rattle.pm_elim.specs.declared.evidence.ElimFail.TheVariants as elimination
@@ -16,6 +17,7 @@ use Rattle.pm_geom.specs.declared.evidence.Evidence.TheVariants.{E1, E4}
 use Rattle.pm_incidence.proofs.Determined.{AreFound, found_more}
 use Rattle.pm_incidence.specs.Fails.{thin_fail_of}
 use Rattle.pm_incidence.specs.FromSets.{IsDetermining, IsSetsFail, determining, rows_at}
+use Rattle.pm_incidence.specs.Lost.{IfThinWide}
 use Rattle.pm_incidence.specs.SetRows.{IsFound, IsTurned, IsWideWith}
 use Rattle.pm_incidence.specs.declared.fails.ThinFail.{ThinFail}
 use Rattle.pm_incidence.specs.declared.fails.ThinFail.TheVariants.{Many, Memory, Wide}
@@ -105,6 +107,10 @@ listed_set items S i x within is = Contains_among (among_map items (among_Contai
 pub first_fail : (n : ℕ) (E A : List Row) (sets : List (List ℕ)) (X : List Row) → X ≡ E ++ A → (f : ElimFail) → IfWide f (λ e. IsEvidence n X e) → IsSetsFail n E A sets (thin_fail_of f)
 first_fail n E A sets X is (elimination.Wide e) h = record { rows = X; listed = inl is; shown = h }
 first_fail n E A sets X is elimination.Memory h = tt
+
+pub first_lost : (n : ℕ) (X Y : List Row) → X ≡ Y → (f : ElimFail) → IfWide f (λ _. IsLostOnExtended n X) → IfThinWide (thin_fail_of f) (IsLostOnExtended n Y)
+first_lost n X Y is (elimination.Wide e) h = rw (← is) h
+first_lost n X Y is elimination.Memory h = tt
 
 module _ (n : ℕ) (E A : List Row) (set P : List ℕ) (lines : List Row) (b : IsNullBasis n (E ++ A) lines P) where
   pub set_fail : (X : List Row) → X ≡ determining n E A set P → (f : ElimFail) → IfWide f (λ e. IsEvidence n X e) → IsSetsFail n E A (set ∷ []) (thin_fail_of f)

@@ -50,6 +50,13 @@ product_in_list G A a (thin.Wide e) c h = absurd h
 product_in_list G A a (thin.Many e) c h = absurd h
 product_in_list G A a thin.Memory c h = tt
 
+-- the product of one of many rows
+pub product_of_list : (G A : List Row) (g : Row) (f : ThinFail) → Contains G g → IsProductFail (g ∷ []) A f → IsProductFail G A f
+product_of_list G A g (thin.Wide (E4 a b)) c h = record { generator = subst (Contains G) (sym (only_one h.generator)) c; inequality = h.inequality; wide = h.wide }
+product_of_list G A g (thin.Wide e) c h = absurd h
+product_of_list G A g (thin.Many e) c h = absurd h
+product_of_list G A g thin.Memory c h = tt
+
 -- a refusal of half-spaces names one of the rows that were handed in: the products of (1, 0, .., 0) never leave the range
 half_space : (of : ObjectType) (n : ℕ) (A E : List Row) (x : Row) → Among x (half_spaces of n A) → Among x (A ++ E) ⊎ (x ≡ unit n 0)
 half_space Polytope n A E x i = elim (among_append A (unit n 0 ∷ []) i) [ inl j ↦ inl (among_append_left E j) | inr j ↦ inr (single j) ]

@@ -1,8 +1,9 @@
 use Rattle.pm_incidence.proofs.Determined.{columns_below, found_canonical, found_length}
 use Rattle.pm_incidence.proofs.DeterminedRows.{found_determined}
+use Rattle.pm_incidence.proofs.Lost.{if_thin_wide}
 use Rattle.pm_incidence.proofs.SetRows.{fail_more, listed_set, pivots_few, sets_next}
 use Rattle.pm_incidence.proofs.from_sets.rays_of_sets.Goals as goal
-use Rattle.std.proofs.Common.{map, refl, take, ◌++◌, ◌∙◌}
+use Rattle.std.proofs.Common.{inl, inr, map, refl, take, ◌++◌, ◌∙◌}
 use Rattle.std.proofs.lemmas.List.{length-map, take_all}
 use Rattle.std.proofs.lemmas.Result.{err_from_is_err_and}
 
@@ -55,3 +56,28 @@ returns-clause-determined c =
     let b = c.in_ok-pivots.ensures.pivots in
     let found = rw (take_all c.loop-set.set-index c.args.sets.now c.loop-set-test.false) at c.loop-set.invariant.1 in
     found_determined c.args.cols c.args.equations.now c.args.cuts.now b.0 c.in_ok-pivots.pivots.items b.1 (map (λ r. r.items) c.args.sets.now) c.loop-set.rows.items found
+
+pub returns-in_err-pivots-clause-lost : goal.returns-in_err-pivots-clause-lost
+returns-in_err-pivots-clause-lost c = λ wide.
+    let p = err_from_is_err_and c.from_residual.result c.from_residual.ensures.1 in
+    rw (p.1, p.2) (if_thin_wide c.in_err-pivots.field-0.0 (λ h. inl h) (c.in_err-pivots.ensures.lost wide))
+
+pub returns-in_err-ray_of_set-clause-lost : goal.returns-in_err-ray_of_set-clause-lost
+returns-in_err-ray_of_set-clause-lost c = λ wide.
+    let b = c.in_ok-pivots.ensures.pivots in
+    let p = err_from_is_err_and c.from_residual-in_err-ray_of_set.result c.from_residual-in_err-ray_of_set.ensures.1 in
+    let lost = rw (c.deref-in-loop-set.ensures.value, c.deref.ensures.value) at (c.in_err-ray_of_set.ensures.lost wide) in
+    rw (p.1, p.2)
+    (if_thin_wide c.in_err-ray_of_set.field-0.0
+    (λ h. inr record {
+      rows = _;
+      determining = record {
+        lines = b.0;
+        pivots = c.in_ok-pivots.pivots.items;
+        lineality = b.1;
+        set = c.set-item.result.items;
+        listed = listed_set (λ r. r.items) c.args.sets.now c.loop-set.set-index c.set-item.result c.loop-set-test.true c.set-item.is;
+        rows = refl;
+      };
+      lost = h;
+    }) lost)
