@@ -189,3 +189,26 @@ too_many-requires-clause-listed c =
 
 pub returns-clause-few : goal.returns-clause-few
 returns-clause-few c = rw (sym c.count_kept-kept.ensures) c.loop-i.invariant.few
+
+pub pair_ray-requires-clause-as_many : goal.pair_ray-requires-clause-as_many
+pair_ray-requires-clause-as_many c = sym c.requires.table.as_many
+
+pub pair_ray-requires-clause-front : goal.pair_ray-requires-clause-front
+pair_ray-requires-clause-front c = rw c.requires.old_len c.requires.within
+
+pub pair_ray-requires-clause-both : goal.pair_ray-requires-clause-both
+pair_ray-requires-clause-both c = c.loop-k.invariant.both_len ∙ sym c.requires.old_len
+
+pub add-requires : goal.add-requires
+add-requires c =
+    let next = front_row (goal.at.add-requires c).After-both-in-loop-k-1 in
+    let p : IsPairRay (row_at c.args.rows.now c.args.front) c.args.rays.now.rows.items c.args.rays.now.zeros c.loop-i.i (get_or c.args.negatives.now c.loop-k.k 0) c.args.front c.in-Some.ray.row c.in-Some.ray.zeros = rw (c.in-Some.is, next) at c.in_ok-ray.ensures.some in
+    p.zeros.as_many ∙ p.cols ∙ c.requires.old_len ∙ sym c.loop-k.invariant.row_len
+
+pub too_many-requires-clause-many : goal.too_many-requires-clause-many
+too_many-requires-clause-many c =
+    let t = c.if-kept-len-gt-MOST_ROWS.true in
+    let n = c.len.ensures in
+    let whole = c.add.new.self.rows.ok.0 in
+    let k = c.count_kept-kept.ensures in
+    omega arith
