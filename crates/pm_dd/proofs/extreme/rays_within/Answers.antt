@@ -66,3 +66,26 @@ returns-in_err-all-clause-lost c = λ e.
     let p = err_from_is_err_and c.from_residual-in_err-all.result c.from_residual-in_err-all.ensures.1 in
     let steps = rw (c.deref-7.ensures.value, c.deref-8.ensures.value) at (c.in_err-all.ensures.lost e) in
     rw (p.1, p.2) (wide_weaker c.in_err-all.field-0.0 _ _ (λ h. inr (inr (h c.args.rows.now c.requires.columns c.in_ok-order.ensures.arranged))) steps)
+
+pub returns-in_err-order-clause-shown : goal.returns-in_err-order-clause-shown
+returns-in_err-order-clause-shown c =
+    let p = err_from_is_err_and c.from_residual.result c.from_residual.ensures.1 in
+    rw (p.1, p.2) c.in_err-order.ensures.shown
+
+pub returns-in_err-first-clause-shown : goal.returns-in_err-first-clause-shown
+returns-in_err-first-clause-shown c =
+    let p = err_from_is_err_and c.from_residual-in_err-first.result c.from_residual-in_err-first.ensures.1 in
+    let shown = rw (c.deref-4.ensures.value, c.deref-5.ensures.value) at c.in_err-first.ensures.shown in
+    rw (p.1, p.2) (shown c.args.rows.now c.requires.columns c.in_ok-order.ensures.arranged)
+
+pub returns-in_err-all-clause-shown : goal.returns-in_err-all-clause-shown
+returns-in_err-all-clause-shown c =
+    let p = err_from_is_err_and c.from_residual-in_err-all.result c.from_residual-in_err-all.ensures.1 in
+    let shown = rw (c.deref-7.ensures.value, c.deref-8.ensures.value) at c.in_err-all.ensures.shown in
+    rw (p.1, p.2) (shown c.args.rows.now c.requires.columns c.in_ok-order.ensures.arranged)
+
+pub all_rays-requires-clause-table : goal.all_rays-requires-clause-table
+all_rays-requires-clause-table c = rw (c.deref-7.ensures.value, c.deref-8.ensures.value) (rw (c.deref-4.ensures.value, c.deref-5.ensures.value) at c.in_ok-first.ensures.table)
+
+pub all_rays-requires-clause-reduced : goal.all_rays-requires-clause-reduced
+all_rays-requires-clause-reduced c = rw (c.deref-7.ensures.value, c.deref-8.ensures.value) (rw (c.deref-4.ensures.value, c.deref-5.ensures.value) at c.in_ok-first.ensures.reduced)

@@ -8,7 +8,7 @@ use Rattle.pm_dd.proofs.Negatives.{IsRowBuilt, row_end, row_more, row_next, row_
 use Rattle.pm_dd.proofs.Stands.{above_of, below_of, to_of}
 use Rattle.pm_dd.proofs.StepFails.{pair_fail, pair_lost}
 use Rattle.pm_dd.proofs.pairs.near_pairs.Goals as goal
-use Rattle.pm_dd.proofs.pairs.near_pairs.Goals.{After-both-in-loop-k-1}
+use Rattle.pm_dd.proofs.pairs.near_pairs.Goals.{After-index-rows-front}
 use Rattle.pm_dd.specs.Building.{IsMade, IsNoPair, IsPairRay, IsPassed}
 use Rattle.pm_dd.specs.Description.{pair}
 use Rattle.pm_dd.specs.Tables.{zero_set}
@@ -20,26 +20,26 @@ use Rattle.std.proofs.lemmas.Int.{ints}
 use Rattle.std.proofs.lemmas.Result.{err_from_is_err_and}
 
 -- ---- what holds at each pair
-front_row : (c : After-both-in-loop-k-1) → c.index-rows-front.result ≡ row_at c.args.rows.now c.args.front
+front_row : (c : After-index-rows-front) → c.index-rows-front.result ≡ row_at c.args.rows.now c.args.front
 front_row c = get_or_read c.args.rows.now c.args.front c.index-rows-front.result c.requires.within c.index-rows-front.is []
 
-is_ahead : (c : After-both-in-loop-k-1) → pos 0 <ℤ dot (row_at c.args.rows.now c.args.front) (ray c.args.rays.now.rows.items c.loop-i.i)
+is_ahead : (c : After-index-rows-front) → pos 0 <ℤ dot (row_at c.args.rows.now c.args.front) (ray c.args.rays.now.rows.items c.loop-i.i)
 is_ahead c =
     let l : c.loop-i.i < length c.args.rays.now.rows.items = omega arith in
     let t = c.if-values-i-le0.false in
     above_of (dot (row_at c.args.rows.now c.args.front) (ray c.args.rays.now.rows.items c.loop-i.i)) (entry c.args.values.now c.loop-i.i) (c.requires.stand.each c.loop-i.i l) (omega (arith, ints))
 
-row_here : (c : After-both-in-loop-k-1) → IsRowBuilt c.args.cols c.args.equations.now c.args.rows.now c.args.front c.args.rays.now.rows.items c.args.values.now c.loop-i.i (get_or c.args.negatives.now c.loop-k.k 0 ∷ drop (c.loop-k.k + 1) c.args.negatives.now) c.loop-k.made.rows.items c.loop-k.made.zeros.rows
+row_here : (c : After-index-rows-front) → IsRowBuilt c.args.cols c.args.equations.now c.args.rows.now c.args.front c.args.rays.now.rows.items c.args.values.now c.loop-i.i (get_or c.args.negatives.now c.loop-k.k 0 ∷ drop (c.loop-k.k + 1) c.args.negatives.now) c.loop-k.made.rows.items c.loop-k.made.zeros.rows
 row_here c =
     let l : c.loop-k.k < length c.args.negatives.now = omega arith in
     row_next c.args.cols c.args.equations.now c.args.rows.now c.args.front c.args.rays.now.rows.items c.args.values.now c.loop-i.i c.args.negatives.now c.loop-k.made.rows.items c.loop-k.made.zeros.rows c.loop-k.k (get_or c.args.negatives.now c.loop-k.k 0) l refl c.loop-k.invariant.built
 
-is_behind : (c : After-both-in-loop-k-1) → dot (row_at c.args.rows.now c.args.front) (ray c.args.rays.now.rows.items (get_or c.args.negatives.now c.loop-k.k 0)) <ℤ pos 0
+is_behind : (c : After-index-rows-front) → dot (row_at c.args.rows.now c.args.front) (ray c.args.rays.now.rows.items (get_or c.args.negatives.now c.loop-k.k 0)) <ℤ pos 0
 is_behind c =
     let left = (row_here c).left.0 in
     below_of (dot (row_at c.args.rows.now c.args.front) (ray c.args.rays.now.rows.items (get_or c.args.negatives.now c.loop-k.k 0))) (entry c.args.values.now (get_or c.args.negatives.now c.loop-k.k 0)) (c.requires.stand.each (get_or c.args.negatives.now c.loop-k.k 0) left.within) left.negative
 
-is_made : (c : After-both-in-loop-k-1) → (w : Row) (y : List Bool) → IsPairRay (row_at c.args.rows.now c.args.front) c.args.rays.now.rows.items c.args.rays.now.zeros c.loop-i.i (get_or c.args.negatives.now c.loop-k.k 0) c.args.front w y → IsMade c.args.cols c.args.equations.now c.args.rows.now c.args.front c.args.rays.now.rows.items (pair c.loop-i.i (get_or c.args.negatives.now c.loop-k.k 0)) w y
+is_made : (c : After-index-rows-front) → (w : Row) (y : List Bool) → IsPairRay (row_at c.args.rows.now c.args.front) c.args.rays.now.rows.items c.args.rays.now.zeros c.loop-i.i (get_or c.args.negatives.now c.loop-k.k 0) c.args.front w y → IsMade c.args.cols c.args.equations.now c.args.rows.now c.args.front c.args.rays.now.rows.items (pair c.loop-i.i (get_or c.args.negatives.now c.loop-k.k 0)) w y
 is_made c w y p =
     let l : c.loop-i.i < length c.args.rays.now.rows.items = omega arith in
     pair_made c.args.cols c.args.equations.now c.args.rows.now c.args.front c.requires.within c.args.rays.now.rows.items c.args.rays.now.zeros c.requires.table c.requires.equation_cols c.requires.row_cols c.requires.old_len c.loop-i.i (get_or c.args.negatives.now c.loop-k.k 0) l (row_here c).left.0.within c.requires.spanned (is_ahead c) (is_behind c) w y p
@@ -72,25 +72,25 @@ loop-i-preserved-then-common_count_with-need c =
 
 pub pair_ray-requires-clause-second : goal.pair_ray-requires-clause-second
 pair_ray-requires-clause-second c =
-    let at = (goal.at.pair_ray-requires-clause-second c).After-both-in-loop-k-1 in
+    let at = (goal.at.pair_ray-requires-clause-second c).After-index-rows-front in
     let row = row_here at in
     row.left.0.within
 
 pub pair_ray-requires-clause-cols : goal.pair_ray-requires-clause-cols
 pair_ray-requires-clause-cols c =
-    let at = (goal.at.pair_ray-requires-clause-cols c).After-both-in-loop-k-1 in
+    let at = (goal.at.pair_ray-requires-clause-cols c).After-index-rows-front in
     let next = front_row at in
     rw next (front_cols c.args.cols c.args.equations.now c.args.rows.now c.args.front c.requires.within c.requires.row_cols c.args.rays.now.rows.items c.args.rays.now.zeros.rows c.requires.table)
 
 pub pair_ray-requires-clause-stand : goal.pair_ray-requires-clause-stand
 pair_ray-requires-clause-stand c =
-    let at = (goal.at.pair_ray-requires-clause-stand c).After-both-in-loop-k-1 in
+    let at = (goal.at.pair_ray-requires-clause-stand c).After-index-rows-front in
     let next = front_row at in
     rw next c.requires.stand
 
 pub pair_ray-requires-clause-up : goal.pair_ray-requires-clause-up
 pair_ray-requires-clause-up c =
-    let at = (goal.at.pair_ray-requires-clause-up c).After-both-in-loop-k-1 in
+    let at = (goal.at.pair_ray-requires-clause-up c).After-index-rows-front in
     let next = front_row at in
     rw next (is_ahead at)
 
@@ -106,7 +106,7 @@ loop-k-init c = record {
 
 pub loop-k-preserved-in-None : goal.loop-k-preserved-in-None
 loop-k-preserved-in-None c =
-    let at = (goal.at.loop-k-preserved-in-None c).After-both-in-loop-k-1 in
+    let at = (goal.at.loop-k-preserved-in-None c).After-index-rows-front in
     let li : c.loop-i.i < length c.args.rays.now.rows.items = omega arith in
     let row = row_here at in
     let o : IsNoPair c.args.rays.now.zeros c.loop-i.i (get_or c.args.negatives.now c.loop-k.k 0) (c.args.rank - length c.args.equations.now - 2) = rw (c.in-None.is, c.requires.need) at c.in_ok-ray.ensures.none in
@@ -120,7 +120,7 @@ loop-k-preserved-in-None c =
 
 pub loop-k-preserved : goal.loop-k-preserved
 loop-k-preserved c =
-    let at = (goal.at.loop-k-preserved c).After-both-in-loop-k-1 in
+    let at = (goal.at.loop-k-preserved c).After-index-rows-front in
     let next = front_row at in
     let row = row_here at in
     let p : IsPairRay (row_at c.args.rows.now c.args.front) c.args.rays.now.rows.items c.args.rays.now.zeros c.loop-i.i (get_or c.args.negatives.now c.loop-k.k 0) c.args.front c.in-Some.ray.row c.in-Some.ray.zeros = rw (c.in-Some.is, next) at c.in_ok-ray.ensures.some in
@@ -157,7 +157,7 @@ loop-i-init c = record {
 
 pub returns-in_err-ray-clause-wide : goal.returns-in_err-ray-clause-wide
 returns-in_err-ray-clause-wide c =
-    let at = (goal.at.returns-in_err-ray-clause-wide c).After-both-in-loop-k-1 in
+    let at = (goal.at.returns-in_err-ray-clause-wide c).After-index-rows-front in
     let next = front_row at in
     let li : c.loop-i.i < length c.args.rays.now.rows.items = omega arith in
     let up = is_ahead at in
@@ -168,7 +168,7 @@ returns-in_err-ray-clause-wide c =
 
 pub returns-in_err-ray-clause-lost : goal.returns-in_err-ray-clause-lost
 returns-in_err-ray-clause-lost c = λ e.
-    let at = (goal.at.returns-in_err-ray-clause-lost c).After-both-in-loop-k-1 in
+    let at = (goal.at.returns-in_err-ray-clause-lost c).After-index-rows-front in
     let next = front_row at in
     let li : c.loop-i.i < length c.args.rays.now.rows.items = omega arith in
     let up = is_ahead at in
@@ -179,7 +179,7 @@ returns-in_err-ray-clause-lost c = λ e.
 
 pub too_many-requires-clause-listed : goal.too_many-requires-clause-listed
 too_many-requires-clause-listed c =
-    let at = (goal.at.too_many-requires-clause-listed c).After-both-in-loop-k-1 in
+    let at = (goal.at.too_many-requires-clause-listed c).After-index-rows-front in
     let next = front_row at in
     let row = row_here at in
     let p : IsPairRay (row_at c.args.rows.now c.args.front) c.args.rays.now.rows.items c.args.rays.now.zeros c.loop-i.i (get_or c.args.negatives.now c.loop-k.k 0) c.args.front c.in-Some.ray.row c.in-Some.ray.zeros = rw (c.in-Some.is, next) at c.in_ok-ray.ensures.some in
@@ -201,7 +201,7 @@ pair_ray-requires-clause-both c = c.loop-k.invariant.both_len ∙ sym c.requires
 
 pub add-requires : goal.add-requires
 add-requires c =
-    let next = front_row (goal.at.add-requires c).After-both-in-loop-k-1 in
+    let next = front_row (goal.at.add-requires c).After-index-rows-front in
     let p : IsPairRay (row_at c.args.rows.now c.args.front) c.args.rays.now.rows.items c.args.rays.now.zeros c.loop-i.i (get_or c.args.negatives.now c.loop-k.k 0) c.args.front c.in-Some.ray.row c.in-Some.ray.zeros = rw (c.in-Some.is, next) at c.in_ok-ray.ensures.some in
     p.zeros.as_many ∙ p.cols ∙ c.requires.old_len ∙ sym c.loop-k.invariant.row_len
 
