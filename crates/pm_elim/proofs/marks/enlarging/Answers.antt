@@ -4,7 +4,7 @@ use Rattle.pm_elim.proofs.EnlargingLaws.{MarkSoFar-more, mark_is_right}
 use Rattle.pm_elim.proofs.EvidenceLaws.{no_evidence_on_rows, wide_is_evidence}
 use Rattle.pm_elim.proofs.marks.enlarging.Goals as goal
 use Rattle.pm_elim.specs.declared.evidence.ElimList.TheVariants.{Rows}
-use Rattle.std.proofs.Common.{arith, length, take, ◌<◌, ◌≡◌}
+use Rattle.std.proofs.Common.{arith, length, take, ◌<◌, ◌∙◌, ◌≡◌}
 use Rattle.std.proofs.lemmas.Bool.{lt-ltb, ltb-true}
 use Rattle.std.proofs.lemmas.List.{get_or_read}
 
@@ -47,3 +47,14 @@ loop-i-preserved c =
 
 pub returns-clause-never_wide : goal.returns-clause-never_wide
 returns-clause-never_wide c = no_evidence_on_rows c.args.cols c.args.rows.now (λ e w. c.loop-i.invariant.so_far.never_wide e (let l = w.within in omega arith) w)
+
+pub returns-in-Err-clause-list : goal.returns-in-Err-clause-list
+returns-in-Err-clause-list c = fail_list Rows c.in-Err.refusal c.fail_of.result c.loop-i.i _ c.fail_of.ensures
+
+pub returns-clause-marks : goal.returns-clause-marks
+returns-clause-marks c =
+    let all : c.loop-i.i ≡ length c.args.rows.now = omega arith in
+    record {
+      as_many = c.loop-i.invariant.marks.as_many ∙ all;
+      exact = λ k l. c.loop-i.invariant.marks.exact k (omega arith);
+    }
