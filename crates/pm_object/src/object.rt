@@ -301,16 +301,38 @@ impl Object {
         ensures spare { OnOk result (self.old.spare ≤ self.new.spare + 1) }
         ensures spare_left { OnErr result (self.old.spare ≤ self.new.spare) }
     {
-        self.may_take(sub, p, &v)?;
+        match self.may_take(sub, p, &v) {
+            Ok(()) => match self.push_given(sub, p, v) {
+                Ok(()) => Ok(()),
+                Err(AllocError) => Err(TakeFail::Memory),
+            },
+            Err(refused) => {
+                drop(v);
+                Err(refused)
+            }
+        }
+    }
+
+    // Adds a given value that the object, or the program at a place, may take.
+    fn push_given(&mut self, sub: Option<u8>, p: PropId, v: Value) -> Result<(), AllocError>
+        requires missing { is_held p (read_at sub self.old.state.held) ≡ false }
+        requires fits { IsFormedIn self.old.state.of (cols_of self.old.state.held)
+            (length self.old.state.programs) (given_at sub p (view_of v)) }
+        requires given { IsTrue (is_given_at self.old.state.of sub p) }
+        requires sites { IsTrue (sites_agree self.old.state.held p (view_of v)) }
+        ensures ok { OnOk result (self.new.state
+            ≡ with_held self.old.state (given_at sub p (view_of v) ∷ [])) }
+        ensures err { OnErr result (self.new.state ≡ self.old.state) }
+        ensures spare { OnOk result (self.old.spare ≤ self.new.spare + 1) }
+        ensures spare_left { OnErr result (self.old.spare ≤ self.new.spare) }
+    {
         let given = Held {
             place: p.place(sub),
             id: p,
             value: v,
             origin: Origin::Given,
         };
-        if self.held.push(given).is_err() {
-            return Err(TakeFail::Memory);
-        }
+        self.held.push(given)?;
         Ok(())
     }
 
