@@ -108,9 +108,11 @@ fn programs_with(
     let mut marks = marks.into_iter();
     for objective in objectives {
         let Some(name) = names.next() else {
+            drop(objective);
             return Ok(programs);
         };
         let Some(failed) = marks.next() else {
+            drop(objective);
             return Ok(programs);
         };
         programs.push(FileProgram {

@@ -8,7 +8,7 @@ ghost use Rattle.pm_filing.specs.ReadingViews.{fault_of, has_formed_objective, i
 ghost use Rattle.pm_files.specs.Views.{file_of, program_of};
 ghost use Rattle.pm_props.specs.NameWords.{is_name};
 ghost use Rattle.pm_object.specs.Formed.{ArePrograms};
-ghost use Rattle.pm_object.specs.State.{CanTake, HeldValue, is_held, program_refusal, read_at, sites_agree, with_held, with_program};
+ghost use Rattle.pm_object.specs.State.{CanTake, HeldValue, empty_object, is_held, program_refusal, read_at, sites_agree, with_held, with_program};
 ghost use Rattle.pm_props.specs.Properties.{has as has_property};
 ghost use Rattle.pm_props.specs.declared.property.PropId.TheVariants.{LinearObjective};
 ghost use Rattle.pm_props.specs.Sets.{has};
@@ -184,6 +184,28 @@ fn add_programs(
     Ok(())
 }
 
+/// Puts what a whole file holds into an object that holds nothing: its values, given or stored, its linear programs,
+/// the rules that failed, where the book has their labels, and what goes without saying. It answers the names that were
+/// read over.
+fn put_file(
+    alloc: Global,
+    object: &mut Object,
+    book: &Book,
+    file: FileObject,
+) -> Result<Vec<String>, AllocError>
+    requires empty { object.old.state ≡ empty_object file.of }
+    requires whole { IsWhole (file_of file) }
+    requires objectives { IsTrue (list_all has_formed_objective file.programs.items) }
+    ensures object { OnOk result (object.new.state ≡ loaded_object book.now (file_of file)) }
+    ensures names { IfOk result (λ names. map string_bytes names.items ≡ read_over (file_of file)) }
+{
+    add_values(object, file.stored, file.values)?;
+    mark_rules(object, book, None, &file.failed)?;
+    add_programs(alloc, object, book, file.programs)?;
+    object.settle(alloc)?;
+    Ok(file.ignored)
+}
+
 /// The object of what a whole file holds: its values, given or stored, its linear programs, the rules that failed,
 /// where the book has their labels, and what goes without saying.
 fn load_file(
@@ -197,11 +219,13 @@ fn load_file(
     ensures names { IfOk result (λ r. map string_bytes r.1.items ≡ read_over (file_of file)) }
 {
     let mut object = Object::new(alloc, file.of);
-    add_values(&mut object, file.stored, file.values)?;
-    mark_rules(&mut object, book, None, &file.failed)?;
-    add_programs(alloc, &mut object, book, file.programs)?;
-    object.settle(alloc)?;
-    Ok((object, file.ignored))
+    match put_file(alloc, &mut object, book, file) {
+        Ok(names) => Ok((object, names)),
+        Err(refused) => {
+            drop(object);
+            Err(refused)
+        }
+    }
 }
 
 /// The object that is made of the bytes of a data file, and the names that were read over. The errors are those of

@@ -8,11 +8,11 @@ use Rattle.pm_object.specs.State.{State, empty_object, settling, with_held}
 use Rattle.std.specs.Prelude.{None, flat_map, map}
 use Rattle.pm_filing.proofs.ProgramsFit.{ProgramsFit, programs_of_file}
 use Rattle.pm_filing.proofs.Wholeness.{marks_of_all, own_suit}
-use Rattle.pm_filing.proofs.load.load_file.Goals as goal
-use Rattle.pm_filing.proofs.load.load_file.Goals.{In_ok-mark_rules}
+use Rattle.pm_filing.proofs.load.put_file.Goals as goal
+use Rattle.pm_filing.proofs.load.put_file.Goals.{In_ok-mark_rules}
 
 pub add_values-requires-clause-suit : goal.add_values-requires-clause-suit
-add_values-requires-clause-suit c = rw c.new-object.ensures.state (own_suit (file_of c.args.file) c.requires.whole)
+add_values-requires-clause-suit c = rw c.requires.empty (own_suit (file_of c.args.file) c.requires.whole)
 
 pub add_values-requires-clause-sites : goal.add_values-requires-clause-sites
 add_values-requires-clause-sites c = c.requires.whole.sites
@@ -22,7 +22,7 @@ marked : (c : In_ok-mark_rules) → c.mark_rules.new.object.state ≡ record (em
 marked c =
     let held = map (loaded_value c.args.file.stored) (map value_seen c.args.file.values.items) in
     let marks = flat_map (mark_read c.args.book.now None) (marks_seen c.args.file.failed.items) in
-    (rw c.deref.ensures.value at c.in_ok-mark_rules.ensures.ok) ∙ ap (λ (z : State). record z { excluded = z.excluded ++ marks }) (c.in_ok-add_values.ensures.ok ∙ ap (λ (z : State). record z { held = held }) c.new-object.ensures.state)
+    (rw c.deref.ensures.value at c.in_ok-mark_rules.ensures.ok) ∙ ap (λ (z : State). record z { excluded = z.excluded ++ marks }) (c.in_ok-add_values.ensures.ok ∙ ap (λ (z : State). record z { held = held }) c.requires.empty)
 
 pub add_programs-requires : goal.add_programs-requires
 add_programs-requires c =
