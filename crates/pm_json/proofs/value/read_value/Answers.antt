@@ -72,3 +72,26 @@ pub returns-in-Lattice-clause-no_text : goal.returns-in-Lattice-clause-no_text
 returns-in-Lattice-clause-no_text c =
     IfErr-weaker c.read_lattice.result (λ e. e ≢ Memory → reading_of kind.Lattice c.args.p (view c.args.v.now) ≡ Err e) (λ e. e ≢ Memory → (v : ValueSeen) → ¬ (IsJsonOf c.args.p (view c.args.v.now) v))
     (λ e fault other v j. no_text kind.Lattice c.args.p (view c.args.v.now) e (ap (λ r. r.kind) (sym (c.kind.view_is ∙ c.row.ensures)) ∙ c.in-Lattice.is) (fault other) v j) c.read_lattice.ensures.fault
+
+pub returns-in-Int-clause-text : goal.returns-in-Int-clause-text
+returns-in-Int-clause-text c =
+    both_ok c.read_whole.result (λ value is formed. text_of_kind kind.Int c.args.p (view c.args.v.now) (view_of value) is formed) c.read_whole.ensures.ok c.read_whole.ensures.formed
+
+pub returns-in-Number-clause-text : goal.returns-in-Number-clause-text
+returns-in-Number-clause-text c =
+    both_ok c.read_number_value.result (λ value is formed. text_of_kind kind.Number c.args.p (view c.args.v.now) (view_of value) is formed) c.read_number_value.ensures.ok c.read_number_value.ensures.formed
+
+pub returns-in-Int-clause-no_text : goal.returns-in-Int-clause-no_text
+returns-in-Int-clause-no_text c =
+    IfErr-weaker c.read_whole.result (λ e. reading_of kind.Int c.args.p (view c.args.v.now) ≡ Err e) (λ e. e ≢ Memory → (v : ValueSeen) → ¬ (IsJsonOf c.args.p (view c.args.v.now) v))
+    (λ e fault other v j. no_text kind.Int c.args.p (view c.args.v.now) e (ap (λ r. r.kind) (sym (c.kind.view_is ∙ c.row.ensures)) ∙ c.in-Int.is) fault v j) c.read_whole.ensures.fault
+
+pub returns-in-Bool-clause-no_text : goal.returns-in-Bool-clause-no_text
+returns-in-Bool-clause-no_text c =
+    IfErr-weaker c.read_truth.result (λ e. reading_of kind.Bool c.args.p (view c.args.v.now) ≡ Err e) (λ e. e ≢ Memory → (v : ValueSeen) → ¬ (IsJsonOf c.args.p (view c.args.v.now) v))
+    (λ e fault other v j. no_text kind.Bool c.args.p (view c.args.v.now) e (ap (λ r. r.kind) (sym (c.kind.view_is ∙ c.row.ensures)) ∙ c.in-Bool.is) fault v j) c.read_truth.ensures.fault
+
+pub returns-in-Number-clause-no_text : goal.returns-in-Number-clause-no_text
+returns-in-Number-clause-no_text c =
+    IfErr-weaker c.read_number_value.result (λ e. reading_of kind.Number c.args.p (view c.args.v.now) ≡ Err e) (λ e. e ≢ Memory → (v : ValueSeen) → ¬ (IsJsonOf c.args.p (view c.args.v.now) v))
+    (λ e fault other v j. no_text kind.Number c.args.p (view c.args.v.now) e (ap (λ r. r.kind) (sym (c.kind.view_is ∙ c.row.ensures)) ∙ c.in-Number.is) fault v j) c.read_number_value.ensures.fault
