@@ -4,6 +4,7 @@ pub mod PlainEvidence
 pub mod EvidenceExamples
 pub mod WholeFiles
 pub mod Members
+mod StoredKeys
 pub mod Ascending
 pub mod EndOfLine
 pub mod Scanned
