@@ -12,19 +12,19 @@ use std::alloc::{AllocError, Global};
 fn words_command<'a>(alloc: Global) -> Result<Command<'a>, AllocError>
     ensures { IfOk result (λ c. app_of c ≡ words_app) }
 {
-    let rules = Arg::new(alloc, "rules")
-        .long("rules")
-        .action(ArgAction::Set);
-    let trace = Arg::new(alloc, "trace")
-        .long("trace")
-        .action(ArgAction::SetTrue);
-    let demo = Arg::new(alloc, "demo").long("demo").action(ArgAction::Set);
     let bare = Command::new(alloc, "polymake")
         .no_binary_name(true)
         .disable_help_flag(true)
         .disable_version_flag(true);
+    let rules = Arg::new(alloc, "rules")
+        .long("rules")
+        .action(ArgAction::Set);
     let with_rules = bare.arg(rules)?;
+    let trace = Arg::new(alloc, "trace")
+        .long("trace")
+        .action(ArgAction::SetTrue);
     let with_trace = with_rules.arg(trace)?;
+    let demo = Arg::new(alloc, "demo").long("demo").action(ArgAction::Set);
     let whole = with_trace.arg(demo)?;
     Ok(whole)
 }

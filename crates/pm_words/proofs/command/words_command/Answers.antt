@@ -13,7 +13,7 @@ returns c =
     let step2 = rw step1 at c.disable_help_flag.ensures in
     let step3 = rw step2 at c.disable_version_flag-bare.ensures in
     let bare_is : app_of c.disable_version_flag-bare.result ≡ bare_app =
-    ap app_of_fields step3 ∙ ap (on_top (λ (s : Shape). record s { no_binary_name = true; disable_help_flag = true; disable_version_flag = true })) c.new-4.ensures.app in
+    ap app_of_fields step3 ∙ ap (on_top (λ (s : Shape). record s { no_binary_name = true; disable_help_flag = true; disable_version_flag = true })) c.new.ensures.app in
     c.in_ok-whole.ensures.shape (search rules)
     ∙ ap₂ with_rule (c.in_ok-with_trace.ensures.shape (search rules)
     ∙ ap₂ with_rule (c.in_ok-with_rules.ensures.shape (search rules) ∙ ap₂ with_rule bare_is rules_is) trace_is) demo_is
