@@ -22,3 +22,4 @@ pub mod Objectives
 mod ProgramsFit
 pub mod ProgramsRead
 pub mod FlatLists
+mod ReadOver
