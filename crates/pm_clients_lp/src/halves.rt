@@ -36,6 +36,8 @@ pub(crate) fn value_from_rows(
     let inequalities = rows_of(alloc, view, PropId::Inequalities)?;
     let rows = with_first(alloc, view.cols(), inequalities)?;
     let value = optimum_over(alloc, sense, &rows, &equations, objective_of(view), wide)?;
+    drop(rows);
+    drop(equations);
     put_number(draft, value_in(sense), value)?;
     Ok(())
 }
@@ -59,6 +61,8 @@ pub(crate) fn value_with_dual(
     let equations = rows_of(alloc, view, PropId::AffineHull)?;
     let facets = rows_of(alloc, view, PropId::Facets)?;
     let found = optimum_with_dual(alloc, sense, &facets, &equations, objective_of(view), wide)?;
+    drop(facets);
+    drop(equations);
     let _ = found.dual.cols();
     put_number(draft, value_in(sense), found.value)?;
     put_value(draft, dual_in(sense), Value::Mat(found.dual))?;

@@ -42,9 +42,16 @@ pub(crate) fn value_at_rays_by(
 {
     match value_at_rays(alloc, sense, objective, rays, lines) {
         Err(LpFail::Wide(evidence)) if wide => {
-            match wide_value_at_rays(alloc, sense, objective, rays, lines)? {
-                Some(value) => Ok(value),
-                None => Err(LpFail::Wide(evidence)),
+            match wide_value_at_rays(alloc, sense, objective, rays, lines) {
+                Ok(Some(value)) => {
+                    drop(evidence);
+                    Ok(value)
+                }
+                Ok(None) => Err(LpFail::Wide(evidence)),
+                Err(e) => {
+                    drop(evidence);
+                    Err(LpFail::from(e))
+                }
             }
         }
         other => other,
@@ -74,9 +81,16 @@ pub(crate) fn places_of_value_by(
 {
     match places_of_value(alloc, sense, objective, value, rays) {
         Err(LpFail::Wide(evidence)) if wide => {
-            match wide_places_of_value(alloc, sense, objective, value, rays)? {
-                Some(places) => Ok(places),
-                None => Err(LpFail::Wide(evidence)),
+            match wide_places_of_value(alloc, sense, objective, value, rays) {
+                Ok(Some(places)) => {
+                    drop(evidence);
+                    Ok(places)
+                }
+                Ok(None) => Err(LpFail::Wide(evidence)),
+                Err(e) => {
+                    drop(evidence);
+                    Err(LpFail::from(e))
+                }
             }
         }
         other => other,

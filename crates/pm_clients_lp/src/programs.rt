@@ -88,7 +88,9 @@ pub fn optimum_over(
         equations.now (objective_in sense objective.now))) }
 {
     let answer = answer_in(alloc, sense, inequalities, equations, objective, wide)?;
-    Ok(optimum_told(sense, &answer))
+    let value = optimum_told(sense, &answer);
+    drop(answer);
+    Ok(value)
 }
 
 /// The rows of the dual of an optimum; none without one.
@@ -131,11 +133,17 @@ fn optimum_by_dictionaries(
 {
     let turned = sense.objective(alloc, objective)?;
     let answer = maximise_by_dictionaries(alloc, inequalities, equations, &turned)?;
-    let dual = dual_of(alloc, objective.len(), inequalities, &answer)?;
-    Ok(OptimumWithDual {
-        value: optimum_told(sense, &answer),
-        dual,
-    })
+    match dual_of(alloc, objective.len(), inequalities, &answer) {
+        Ok(dual) => {
+            let value = optimum_told(sense, &answer);
+            drop(answer);
+            Ok(OptimumWithDual { value, dual })
+        }
+        Err(fail) => {
+            drop(answer);
+            Err(fail)
+        }
+    }
 }
 
 /// The same optimum, and the rows of a dual that shows it, of whichever answer was found.
@@ -161,12 +169,18 @@ pub fn optimum_with_dual(
 {
     let answer = answer_in(alloc, sense, inequalities, equations, objective, wide)?;
     match dual_of(alloc, objective.len(), inequalities, &answer) {
-        Ok(dual) => Ok(OptimumWithDual {
-            value: optimum_told(sense, &answer),
-            dual,
-        }),
-        Err(LpFail::Memory) => Err(LpFail::Memory),
-        Err(LpFail::Wide(_)) => {
+        Ok(dual) => {
+            let value = optimum_told(sense, &answer);
+            drop(answer);
+            Ok(OptimumWithDual { value, dual })
+        }
+        Err(LpFail::Memory) => {
+            drop(answer);
+            Err(LpFail::Memory)
+        }
+        Err(LpFail::Wide(refused)) => {
+            drop(refused);
+            drop(answer);
             optimum_by_dictionaries(alloc, sense, inequalities, equations, objective)
         }
     }

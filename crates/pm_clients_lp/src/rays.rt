@@ -33,6 +33,8 @@ pub(crate) fn value_from_rays(
     let lines = rows_of(alloc, view, PropId::LinealitySpace)?;
     let rays = rows_of(alloc, view, PropId::Vertices)?;
     let value = value_at_rays_by(alloc, sense, objective_of(view), &rays, &lines, wide)?;
+    drop(rays);
+    drop(lines);
     put_number(draft, value_in(sense), value)?;
     Ok(())
 }

@@ -1,10 +1,10 @@
 -- The answer is that of the turned objective, and the dual is that of the answer.
 use Rattle.pm_clients_lp.proofs.programs.optimum_by_dictionaries.Goals as goal
 
-pub returns-clause-found : goal.returns-clause-found
-returns-clause-found c = record {
+pub returns-in-Ok-clause-found : goal.returns-in-Ok-clause-found
+returns-in-Ok-clause-found c = record {
   answer = c.in_ok-answer.answer;
   right = rw (c.deref.ensures.value, c.in_ok-turned.ensures) at c.in_ok-answer.ensures.answer;
-  value = c.optimum_told.ensures;
-  dual = c.in_ok-dual.ensures.rows;
+  value = c.optimum_told-value.ensures;
+  dual = c.in-Ok.ensures.rows;
 }

@@ -8,4 +8,4 @@ use Rattle.std.proofs.Common.{subst, sym}
 pub returns-clause-value : goal.returns-clause-value
 returns-clause-value c =
     let d = objective_in c.args.sense c.args.objective.now in
-    subst (IsGreatest (Solves c.args.inequalities.now c.args.equations.now) d) (sym c.optimum_told.ensures) (told c.args.inequalities.now c.args.equations.now d c.in_ok-answer.answer c.in_ok-answer.ensures.answer)
+    subst (IsGreatest (Solves c.args.inequalities.now c.args.equations.now) d) (sym c.optimum_told-value.ensures) (told c.args.inequalities.now c.args.equations.now d c.in_ok-answer.answer c.in_ok-answer.ensures.answer)
