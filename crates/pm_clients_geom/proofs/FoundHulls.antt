@@ -9,7 +9,7 @@ use Rattle.pm_vector.specs.Rows.{HasCols, IsZero, Row, entry, opposite}
 use Rattle.pm_vector.specs.Bases.{IsEchelonBasis}
 use Rattle.pm_client.proofs.Drafts.{put}
 use Rattle.pm_client.proofs.FreshOrders.{fresh_facets, fresh_kind, fresh_rays}
-use Rattle.pm_client.proofs.Puts.{AreFormed, ArePut, AreRight, IsRightPut, sound_alone, two_put}
+use Rattle.pm_client.proofs.Puts.{AreFormed, AreRight, IsRightPut, sound_alone}
 use Rattle.pm_client.proofs.ReadValues.{found, read_right}
 use Rattle.pm_client.proofs.ViewLaws.{has_listed, not_fan, source_named, target_named}
 use Rattle.pm_client.specs.Sound.{AreParts, IsSound, added_rows, are_parts}
@@ -17,10 +17,10 @@ use Rattle.pm_clients_geom.proofs.FoundDims.{pair_right}
 use Rattle.pm_clients_geom.proofs.PutMatrices.{hull_forms, lineality_forms, put_columned, put_states, ratios_columned, rows_columned}
 use Rattle.pm_clients_geom.proofs.PutRays.{primitive_not_zero, ray_form, ray_rows, some_not_zero}
 use Rattle.pm_clients_geom.proofs.RowLists.{IsColumned, second_source}
-use Rattle.pm_clients_geom.specs.Hulls.{AreFewRows, ArePutGenerators, FindsFacets, MayGenerate, cut_type}
+use Rattle.pm_clients_geom.specs.Hulls.{AreFewRows, ArePutGenerators, ArePutRows, FindsFacets, MayGenerate, cut_type}
 use Rattle.pm_clients_geom.specs.Lists.{ReadsParts}
 use Rattle.pm_clients_geom.specs.Matrices.{AreNotZero, AreRays, MayBeLines}
-use Rattle.pm_types.specs.Parts.{cols_over, as_put}
+use Rattle.pm_types.specs.Parts.{cols_over}
 use Rattle.pm_clients_geom.specs.Rays.{ArePutRays}
 use Rattle.pm_elim.proofs.PrefixLaws.{at_most_columns}
 use Rattle.pm_geom.specs.Cones.{IsExtreme, IsValid}
@@ -28,7 +28,7 @@ use Rattle.pm_geom.specs.Generators.{AreGenerators}
 use Rattle.pm_geom.specs.Things.{Orders}
 use Rattle.pm_dd.specs.Hulls.{AreFacets, InConeOf, half_spaces_of}
 use Rattle.pm_dd.specs.Fronts.{HalfSpaces}
-use Rattle.pm_matrix.specs.Matrices.{FractionMatrix, IsFraction}
+use Rattle.pm_matrix.specs.Matrices.{IsFraction}
 use Rattle.pm_object.specs.Reading.{DraftSeen, IsView, Put, ViewSeen}
 use Rattle.pm_props.specs.Kinds.{IsFresh, names_of}
 use Rattle.pm_props.specs.Places.{place_of}
@@ -232,27 +232,18 @@ module _ (v : ViewSeen) (view : IsView v) (targets : v.kind.targets ≡ set_of (
   pub facets_sound_as : (new : DraftSeen) → new ≡ record { kind = v.kind; values = facet_puts } → IsSound v new
   facets_sound_as new draft = sound_alone v facet_puts new (record { targets = targets; draft = draft }) (refl, (refl, tt)) facets_formed facets_are_right
 
-  pub put_facets_sound : (a b : FractionMatrix) (old mid new : DraftSeen) → a ≡ as_put v.cols (map ratios F) → b ≡ as_put v.cols (map ratios H) → old ≡ record { kind = v.kind; values = [] }
-      → mid ≡ record old { values = old.values ++ record { property = Facets; value = matrix a.cols a.rows } ∷ [] } → new ≡ record mid { values = mid.values ++ record { property = AffineHull; value = matrix b.cols b.rows } ∷ [] } → IsSound v new
-  put_facets_sound a b old mid new same_a same_b empty first_put second_put =
-      sound_alone v facet_puts new
-      (subst (λ z. ArePut v (put Facets (matrix z.cols z.rows) ∷ put AffineHull (matrix (cols_over v.cols (map ratios H)) (map ratios H)) ∷ []) new) same_a
-      (subst (λ z. ArePut v (put Facets (matrix a.cols a.rows) ∷ put AffineHull (matrix z.cols z.rows) ∷ []) new) same_b
-      (two_put v Facets AffineHull (matrix a.cols a.rows) (matrix b.cols b.rows) old mid empty first_put new targets second_put)))
-      (refl, (refl, tt)) facets_formed facets_are_right
-
 -- ---- the same, by double description
-module _ (v : ViewSeen) (view : IsView v) (first second : PropId) (kind : FindsFacets v.kind first second) (L G F H : List Row) (read : ReadsParts v first second L G) (facets : AreFacets v.cols G L F H) (few : length F ≤ most_rows) (few_hull : length H ≤ most_rows) (range : All (All InRange) F) (range_hull : All (All InRange) H) where
+module _ (v : ViewSeen) (view : IsView v) (first second : PropId) (kind : FindsFacets v.kind first second) (L G F H : List Row) (read : ReadsParts v first second L G) (facets : AreFacets v.cols G L F H) (few : length F ≤ most_rows) (few_hull : length H ≤ most_rows) where
   is_fresh : IsFresh facets_tag v.kind
   is_fresh = fresh_kind facets_tag v.kind (Facets ∷ AffineHull ∷ []) (second ∷ first ∷ []) Facets kind.targets kind.sources refl refl (none_of_facets first second kind.parts kind.generators)
 
-  pub facets_sound : (a b : FractionMatrix) (old mid new : DraftSeen) → a ≡ as_put v.cols (map ratios F) → b ≡ as_put v.cols (map ratios H) → old ≡ record { kind = v.kind; values = [] }
-      → mid ≡ record old { values = old.values ++ record { property = Facets; value = matrix a.cols a.rows } ∷ [] } → new ≡ record mid { values = mid.values ++ record { property = AffineHull; value = matrix b.cols b.rows } ∷ [] } → IsSound v new
-  facets_sound =
+  pub facets_sound : (old new : DraftSeen) → old ≡ record { kind = v.kind; values = [] } → ArePutRows v.cols F H old new → IsSound v new
+  facets_sound old new empty put =
       let no_fan : ¬ (v.of ≡ Fan) = not_fan v Facets view (target_named v.kind Facets (has_listed v.kind.targets (Facets ∷ AffineHull ∷ []) Facets kind.targets)) refl refl in
-      put_facets_sound v view kind.targets is_fresh F F H
+      facets_sound_as v view kind.targets is_fresh F F H
       (λ t o of cols right. record { rays = G; lines = L; facets = facets; same = generated v first second L G kind.parts kind.generators read t o right (λ e. no_fan (sym of ∙ e)) }) (λ h. refl)
-      (record { cols = order_cols v.cols (IsValid v.cols G L) F facets.order; few = few }) (record { cols = facets.basis.echelon.cols; few = few_hull }) (primitive_some F facets.primitive) range range_hull
+      (record { cols = order_cols v.cols (IsValid v.cols G L) F facets.order; few = few }) (record { cols = facets.basis.echelon.cols; few = few_hull }) (primitive_some F facets.primitive) put.in_range put.hull_in_range
+      new (put.draft ∙ ap (λ (d : DraftSeen). record { kind = d.kind; values = hull_puts v F H }) empty)
 
 -- ---- VERTICES
 ray_lengths : (of : ObjectType) (n : ℕ) (rows : List (List Ratio)) (X : List Row) → HasCols n X → ArePutRays of rows X → list_all (is_row_of_entries n) rows ≡ true

@@ -8,20 +8,18 @@ use Rattle.pm_client.proofs.Drafts.{put}
 use Rattle.pm_client.proofs.Failing.{fails_by_parts}
 use Rattle.pm_client.proofs.FreshOrders.{fresh_facets, fresh_kind}
 use Rattle.pm_client.proofs.PlainValues.{Follows, plain_form, sound_plain}
-use Rattle.pm_client.proofs.Puts.{AreFormed, ArePut, AreRight, IsPut, sound_alone, three_put}
+use Rattle.pm_client.proofs.Puts.{AreFormed, AreRight, IsPut, put_more, sound_alone}
 use Rattle.pm_client.proofs.ReadValues.{read_right}
 use Rattle.pm_client.proofs.ViewLaws.{has_listed, not_fan, target_named}
 use Rattle.pm_client.specs.Sound.{AreParts, FailsRightly, IsSound}
 use Rattle.pm_clients_geom.proofs.FoundHulls.{AreFacetsOf, generated, hull_formed, hull_found, hull_puts, lines_few, primitive_some, with_facets}
 use Rattle.pm_clients_geom.specs.Hulls.{AreFewRows}
-use Rattle.pm_types.specs.Parts.{cols_over, as_put}
 use Rattle.pm_clients_geom.specs.PlacedRays.{ArePlaced, PlacesRays, fail_of_place}
 use Rattle.pm_dd.specs.declared.fails.DdFail.TheVariants as double
 use Rattle.pm_geom.specs.Cones.{IsValid}
 use Rattle.pm_geom.specs.Things.{Orders}
 use Rattle.pm_geom.specs.declared.evidence.Evidence.{Evidence}
 use Rattle.pm_geom.specs.declared.evidence.Evidence.TheVariants.{E1, E2, E3, E4, E5Cells, E5Faces, E5Rays, E5Rows}
-use Rattle.pm_matrix.specs.Matrices.{FractionMatrix}
 use Rattle.pm_object.specs.Reading.{DraftSeen, IsView, Put, ViewSeen}
 use Rattle.pm_object_type.specs.declared.object_type.ObjectType.TheVariants.{Fan}
 use Rattle.pm_props.specs.Kinds.{IsFresh}
@@ -40,10 +38,9 @@ use Rattle.pm_types.specs.Forms.{is_sets_form}
 use Rattle.pm_types.specs.Right.{Right, RightAll, objective_of}
 use Rattle.pm_types.specs.Things.{Thing}
 use Rattle.pm_types.specs.Values.{IndexSets, matrix, sets}
-use Rattle.pm_types.specs.Views.{ratios}
-use Rattle.std.proofs.Common.{inl, inr, refl, subst, sym, ◌∙◌}
+use Rattle.std.proofs.Common.{ap, inl, inr, refl, subst, sym, ◌∙◌}
 use Rattle.std.specs.List.{All}
-use Rattle.std.specs.Prelude.{List, [], length, map, true, ◌++◌, ◌∷◌, ◌≡◌}
+use Rattle.std.specs.Prelude.{List, [], length, true, ◌++◌, ◌∷◌, ◌≡◌}
 
 -- ---- failures
 module _ (v : ViewSeen) (first second : PropId) (kind : PlacesRays v.kind first second) (L G : List Row) (parts : AreParts v L G) where
@@ -115,12 +112,9 @@ module _ (v : ViewSeen) (view : IsView v) (kind : PlacesRays v.kind LinealitySpa
       let cells = placing_right v no_fan L G F H T p t o of cols right (objective_of t (place_of v.sub PlacingTriangulation)) in
       fresh_facets v (hull_puts v F H ++ put PlacingTriangulation (sets T.rows T.cols) ∷ []) t o (with_facets o F) view.only w.0 right (w.1.0, (w.1.1.0, (record { right = cells; canonical = tt }, tt))) is_fresh refl
 
-  pub three_sound : (a b : FractionMatrix) (old mid most new : DraftSeen) → a ≡ as_put v.cols (map ratios F) → b ≡ as_put v.cols (map ratios H) → old ≡ record { kind = v.kind; values = [] }
-      → mid ≡ record old { values = old.values ++ record { property = Facets; value = matrix a.cols a.rows } ∷ [] } → most ≡ record mid { values = mid.values ++ record { property = AffineHull; value = matrix b.cols b.rows } ∷ [] }
-      → new ≡ record most { values = most.values ++ record { property = PlacingTriangulation; value = sets T.rows T.cols } ∷ [] } → IsSound v new
-  three_sound a b old mid most new same_a same_b empty first_put second_put third_put =
+  pub three_sound : (old mid new : DraftSeen) → old ≡ record { kind = v.kind; values = [] } → mid ≡ record { kind = old.kind; values = hull_puts v F H }
+      → new ≡ record mid { values = mid.values ++ record { property = PlacingTriangulation; value = sets T.rows T.cols } ∷ [] } → IsSound v new
+  three_sound old mid new empty hull third =
       sound_alone v three_puts new
-      (subst (λ z. ArePut v (put Facets (matrix z.cols z.rows) ∷ put AffineHull (matrix (cols_over v.cols (map ratios H)) (map ratios H)) ∷ put PlacingTriangulation (sets T.rows T.cols) ∷ []) new) same_a
-      (subst (λ z. ArePut v (put Facets (matrix a.cols a.rows) ∷ put AffineHull (matrix z.cols z.rows) ∷ put PlacingTriangulation (sets T.rows T.cols) ∷ []) new) same_b
-      (three_put v Facets AffineHull (matrix a.cols a.rows) (matrix b.cols b.rows) old mid empty first_put PlacingTriangulation (sets T.rows T.cols) most new targets second_put third_put)))
+      (record { targets = targets; draft = put_more v.kind (hull_puts v F H) (put PlacingTriangulation (sets T.rows T.cols)) mid new (hull ∙ ap (λ (d : DraftSeen). record { kind = d.kind; values = hull_puts v F H }) empty) third })
       (refl, (refl, (refl, tt))) three_formed three_right

@@ -84,6 +84,17 @@ pub record ArePutGenerators (v : ViewSeen) (V' K' : List Row) (new : DraftSeen) 
         ∷ [];
   }
 
+-- the rows F and H were put as FACETS and AFFINE_HULL, where nothing was put
+pub record ArePutRows (n : ℕ) (F H : List Row) (old new : DraftSeen) : Type 0 where
+  pub in_range : All (All InRange) F
+  pub hull_in_range : All (All InRange) H
+  pub draft : new ≡ record {
+    kind = old.kind;
+    values = record { property = Facets; value = matrix (cols_over n (map ratios F)) (map ratios F) }
+        ∷ record { property = AffineHull; value = matrix (cols_over n (map ratios H)) (map ratios H) }
+        ∷ [];
+  }
+
 -- double description of the two parts that a client reads is lost by wide numbers
 pub record ReadsLostParts (v : ViewSeen) : Type 0 where
   pub lines : List Row

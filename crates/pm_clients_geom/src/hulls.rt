@@ -3,9 +3,10 @@
 ghost use Rattle.pm_client.specs.Fails.{IfOutOfRange};
 ghost use Rattle.pm_client.specs.Sound.{FailsRightly, IsSound, are_parts};
 ghost use Rattle.pm_client.specs.declared.ClientFail.TheVariants.{Memory};
-ghost use Rattle.pm_clients_geom.specs.Hulls.{AreFewRows, ArePossible, ArePutGenerators, FindsFacets, FindsRays, ReadsLostParts, cut_type};
+ghost use Rattle.pm_clients_geom.specs.Hulls.{AreFewRows, ArePossible, ArePutGenerators, ArePutRows, FindsFacets, FindsRays, ReadsLostParts, cut_type};
 ghost use Rattle.pm_clients_geom.specs.Lists.{ReadsParts};
 ghost use Rattle.pm_props.specs.Sets.{has, set_of};
+ghost use Rattle.pm_vector.specs.Rows.{HasCols};
 ghost use Rattle.pm_props.specs.declared.property.PropId.TheVariants as property;
 ghost use Rattle.pm_standard.specs.declared.standard.StandardClient.TheVariants as client;
 ghost use Rattle.std.specs.Prelude.{IfErr, IfOk, IsTrue, OnOk, [], true, ◌∷◌, ◌≡◌, map};
@@ -225,10 +226,36 @@ fn dd_facets(
 {
     let parts = read_parts(alloc, view, first, second)?;
     let found = facets_of(alloc, view.cols(), &parts.second, &parts.first, wide)?;
-    let facets = matrix_over_one(alloc, &found.facets, view.cols())?;
-    let hull = matrix_over_one(alloc, &found.hull, view.cols())?;
-    put_value(draft, PropId::Facets, Value::Mat(facets))?;
-    put_value(draft, PropId::AffineHull, Value::Mat(hull))?;
+    drop(parts);
+    let Ok(()) = put_hull(alloc, draft, view.cols(), &found.facets, &found.hull) else {
+        drop(found);
+        return Err(ClientFail::Memory);
+    };
+    drop(found);
+    Ok(())
+}
+
+/// Puts facet rows and rows that vanish as FACETS and AFFINE_HULL. Want of memory alone ends it.
+pub(crate) fn put_hull(
+    alloc: Global,
+    draft: &mut Draft,
+    cols: usize,
+    facets: &[Ints],
+    hull: &[Ints],
+) -> Result<(), ClientFail>
+    requires facet_cols { HasCols cols facets.now }
+    requires hull_cols { HasCols cols hull.now }
+    requires target { IsTrue (has draft.old.kind.targets property.Facets) }
+    requires hull_target { IsTrue (has draft.old.kind.targets property.AffineHull) }
+    requires empty { draft.old.values ≡ [] }
+    ensures kind { draft.new.kind ≡ draft.old.kind }
+    ensures put { OnOk result (ArePutRows cols facets.now hull.now draft.old draft.new) }
+    ensures failed { IfErr result (λ e. e ≡ Memory) }
+{
+    let rows = matrix_over_one(alloc, facets, cols)?;
+    let vanishing = matrix_over_one(alloc, hull, cols)?;
+    put_value(draft, PropId::Facets, Value::Mat(rows))?;
+    put_value(draft, PropId::AffineHull, Value::Mat(vanishing))?;
     Ok(())
 }
 
@@ -262,6 +289,7 @@ fn dd_vertices(
     let parts = read_parts(alloc, view, first, second)?;
     let of = cut_type(second, view.of());
     let found = generators_of(alloc, of, view.cols(), &parts.second, &parts.first, wide)?;
+    drop(parts);
     put_generators(alloc, view, draft, found)?;
     Ok(())
 }
@@ -303,6 +331,7 @@ pub(crate) fn put_generators(
     let put = those_that_may_be(alloc, view, found);
     let vertices = matrix_of_rays(alloc, view.of(), &put.rays, view.cols())?;
     let lineality = matrix_over_one(alloc, &put.lineality, view.cols())?;
+    drop(put);
     put_value(draft, PropId::Vertices, Value::Mat(vertices))?;
     put_value(draft, PropId::LinealitySpace, Value::Mat(lineality))?;
     Ok(())

@@ -10,13 +10,13 @@ ghost use Rattle.pm_props.specs.declared.property.PropId.TheVariants as property
 ghost use Rattle.pm_standard.specs.declared.standard.StandardClient.TheVariants as client;
 ghost use Rattle.std.specs.Prelude.{IfErr, IfOk, OnOk, [], map, true, ◌∷◌, ◌≡◌};
 
-use crate::hulls::{Parts, read_parts};
+use crate::hulls::{Parts, put_hull, read_parts};
 use pm_beneath::{Facets, PlaceFail, place};
 use pm_client::{ClientFail, put_value};
 use pm_family::{Family, FamilyClient};
 use pm_object::{Draft, View};
 use pm_standard::StandardClient;
-use pm_types::{PropId, Sets, Value, matrix_over_one};
+use pm_types::{PropId, Sets, Value};
 use std::alloc::Global;
 
 /// The works of the clients that place rays.
@@ -161,10 +161,17 @@ fn bb_facets(alloc: Global, view: &View, draft: &mut Draft, wide: bool) -> Resul
         × IfOutOfRange e (ReadsLostParts view.now)) }
 {
     let placed = place_rows(alloc, view, PropId::InputLineality, PropId::Points, wide)?;
-    let facets = matrix_over_one(alloc, &placed.facets.facets, view.cols())?;
-    let hull = matrix_over_one(alloc, &placed.facets.hull, view.cols())?;
-    put_value(draft, PropId::Facets, Value::Mat(facets))?;
-    put_value(draft, PropId::AffineHull, Value::Mat(hull))?;
+    let Ok(()) = put_hull(
+        alloc,
+        draft,
+        view.cols(),
+        &placed.facets.facets,
+        &placed.facets.hull,
+    ) else {
+        drop(placed);
+        return Err(ClientFail::Memory);
+    };
+    drop(placed);
     Ok(())
 }
 
@@ -181,10 +188,18 @@ fn bb_facets_v(alloc: Global, view: &View, draft: &mut Draft, wide: bool) -> Res
         × IfOutOfRange e (ReadsLostParts view.now)) }
 {
     let placed = place_rows(alloc, view, PropId::LinealitySpace, PropId::Vertices, wide)?;
-    let facets = matrix_over_one(alloc, &placed.facets.facets, view.cols())?;
-    let hull = matrix_over_one(alloc, &placed.facets.hull, view.cols())?;
-    put_value(draft, PropId::Facets, Value::Mat(facets))?;
-    put_value(draft, PropId::AffineHull, Value::Mat(hull))?;
+    let Ok(()) = put_hull(
+        alloc,
+        draft,
+        view.cols(),
+        &placed.facets.facets,
+        &placed.facets.hull,
+    ) else {
+        drop(placed);
+        return Err(ClientFail::Memory);
+    };
+    drop(placed.parts);
+    drop(placed.facets);
     put_value(
         draft,
         PropId::PlacingTriangulation,

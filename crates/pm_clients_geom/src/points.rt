@@ -43,11 +43,20 @@ fn is_feasible(
         (ShowsProgram inequalities.now equations.now (no_objective cols))) }
 {
     let objective = no_objective(alloc, cols)?;
-    match maximise_rows_by(alloc, inequalities, equations, &objective, wide) {
-        Ok(LpAnswer::Infeasible { .. }) => Ok(false),
-        Ok(LpAnswer::Optimal { .. }) => Ok(true),
-        Ok(LpAnswer::Unbounded { .. }) => Ok(true),
-        Err(fail) => Err(fail),
+    let answer = maximise_rows_by(alloc, inequalities, equations, &objective, wide)?;
+    match &answer {
+        LpAnswer::Infeasible { .. } => {
+            drop(answer);
+            Ok(false)
+        }
+        LpAnswer::Optimal { .. } => {
+            drop(answer);
+            Ok(true)
+        }
+        LpAnswer::Unbounded { .. } => {
+            drop(answer);
+            Ok(true)
+        }
     }
 }
 

@@ -172,6 +172,7 @@ fn lineality_from_facets(
 {
     let rows = row_list(alloc, view, PropId::AffineHull, PropId::Facets)?;
     let null = null_space_by(alloc, &rows, view.cols(), wide)?;
+    drop(rows);
     let lines = if may_be_lines(view.of(), &null) {
         null
     } else {
@@ -206,6 +207,7 @@ fn hull_from_vertices(
 {
     let rows = row_list(alloc, view, PropId::LinealitySpace, PropId::Vertices)?;
     let null = null_space_by(alloc, &rows, view.cols(), wide)?;
+    drop(rows);
     let hull = matrix_over_one(alloc, &null, view.cols())?;
     put_value(draft, PropId::AffineHull, Value::Mat(hull))?;
     Ok(())

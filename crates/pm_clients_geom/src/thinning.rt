@@ -10,7 +10,7 @@ ghost use Rattle.pm_props.specs.declared.property.PropId.TheVariants as property
 ghost use Rattle.pm_standard.specs.declared.standard.StandardClient.TheVariants as client;
 ghost use Rattle.std.specs.Prelude.{All, IfErr, OnOk, [], length, true, ◌<◌, ◌∷◌, ◌≡◌, map};
 
-use crate::hulls::{put_generators, read_parts};
+use crate::hulls::{put_generators, put_hull, read_parts};
 use crate::rays::{are_not_zero, are_rays, matrix_of_rays};
 use pm_client::{ClientFail, put_value, sets_of};
 use pm_dd::{Facets, Generators};
@@ -154,6 +154,8 @@ fn thin_points_f(
         &facets,
         wide,
     )?;
+    drop(generators);
+    drop(facets);
     put_generators(alloc, view, draft, found)?;
     Ok(())
 }
@@ -188,6 +190,8 @@ fn thin_inequalities_v(
         &generators,
         wide,
     )?;
+    drop(halves);
+    drop(generators);
     put_facets(alloc, view, draft, found)?;
     Ok(())
 }
@@ -209,6 +213,7 @@ fn rays_of_sets(alloc: Global, view: &View, draft: &mut Draft, wide: bool) -> Re
     };
     let sets = sets_of(view, PropId::VerticesInFacets);
     let found = vertices_from_sets(alloc, view.cols(), &facets, sets, wide)?;
+    drop(facets);
     let rays = possible_rays(alloc, view.of(), found);
     let vertices = matrix_of_rays(alloc, view.of(), &rays, view.cols())?;
     put_value(draft, PropId::Vertices, Value::Mat(vertices))?;
@@ -237,6 +242,7 @@ fn facets_of_sets(
     };
     let sets = sets_of(view, PropId::VerticesInFacets);
     let found = facets_from_sets(alloc, view.cols(), &generators, sets, wide)?;
+    drop(generators);
     let rows = possible_facets(alloc, found);
     let facets = matrix_over_one(alloc, &rows, view.cols())?;
     put_value(draft, PropId::Facets, Value::Mat(facets))?;
@@ -261,10 +267,7 @@ pub(crate) fn put_facets(
     ensures failed { IfErr result (λ e. e ≡ Memory) }
 {
     let rows = possible_facets(alloc, found.facets);
-    let facets = matrix_over_one(alloc, &rows, view.cols())?;
-    let hull = matrix_over_one(alloc, &found.hull, view.cols())?;
-    put_value(draft, PropId::Facets, Value::Mat(facets))?;
-    put_value(draft, PropId::AffineHull, Value::Mat(hull))?;
+    put_hull(alloc, draft, view.cols(), &rows, &found.hull)?;
     Ok(())
 }
 

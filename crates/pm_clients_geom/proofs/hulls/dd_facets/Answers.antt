@@ -18,14 +18,14 @@ use Rattle.std.specs.Prelude.{List, [], ◌∷◌}
 abbrev targets : List PropId
 targets = Facets ∷ AffineHull ∷ []
 
-pub put_value-requires-clause-target : goal.put_value-requires-clause-target
-put_value-requires-clause-target c = has_listed _ targets Facets (ap (λ d. d.kind.targets) c.requires.empty ∙ c.requires.kind.targets)
+pub put_hull-requires-clause-target : goal.put_hull-requires-clause-target
+put_hull-requires-clause-target c = has_listed _ targets Facets (ap (λ d. d.kind.targets) c.requires.empty ∙ c.requires.kind.targets)
 
-pub put_value-requires-2-clause-target : goal.put_value-requires-2-clause-target
-put_value-requires-2-clause-target c = has_listed _ targets AffineHull (ap (λ d. d.kind.targets) c.in_ok-put_value.ensures.ok ∙ ap (λ d. d.kind.targets) c.requires.empty ∙ c.requires.kind.targets)
+pub put_hull-requires-clause-hull_target : goal.put_hull-requires-clause-hull_target
+put_hull-requires-clause-hull_target c = has_listed _ targets AffineHull (ap (λ d. d.kind.targets) c.requires.empty ∙ c.requires.kind.targets)
 
-pub matrix_over_one-requires : goal.matrix_over_one-requires
-matrix_over_one-requires c =
+pub put_hull-requires-clause-facet_cols : goal.put_hull-requires-clause-facet_cols
+put_hull-requires-clause-facet_cols c =
     let g = rw c.cols.ensures.value at c.in_ok-found.ensures.facets in
     rw (c.deref-3.ensures.value, c.cols-2.ensures.value) (order_cols c.args.view.now.cols _ c.in_ok-found.found.facets.items g.order)
 
@@ -57,9 +57,7 @@ returns-clause-sound c =
     let g = rw (c.deref.ensures.value, c.deref-2.ensures.value, c.cols.ensures.value) at c.in_ok-found.ensures.facets in
     facets_sound v view c.args.first c.args.second c.requires.kind c.in_ok-parts.parts.first.items c.in_ok-parts.parts.second.items c.in_ok-found.found.facets.items c.in_ok-found.found.hull.items
     c.in_ok-parts.ensures.read g c.in_ok-found.ensures.few (lines_few v view _ c.in_ok-found.found.facets.items c.in_ok-found.found.hull.items g).few
-    (rw c.deref-3.ensures.value at c.in_ok-facets.ensures.in_range) (rw c.deref-4.ensures.value at c.in_ok-hull.ensures.in_range) c.in_ok-facets.facets c.in_ok-hull.hull
-    c.args.draft.now c.put_value.new.draft c.put_value-2.new.draft (rw (c.deref-3.ensures.value, c.cols-2.ensures.value) at c.in_ok-facets.ensures.rows) (rw (c.deref-4.ensures.value, c.cols-3.ensures.value) at c.in_ok-hull.ensures.rows)
-    c.requires.empty c.in_ok-put_value.ensures.ok c.in_ok-put_value-2.ensures.ok
+    c.args.draft.now c.put_hull.new.draft c.requires.empty (rw (c.cols-2.ensures.value, c.deref-3.ensures.value, c.deref-4.ensures.value) at c.in-Ok.ensures.put)
 
 pub read_parts-requires-clause-first : goal.read_parts-requires-clause-first
 read_parts-requires-clause-first c = first_source _ c.args.first c.args.second c.requires.kind.sources

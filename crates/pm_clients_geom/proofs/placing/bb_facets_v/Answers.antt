@@ -9,21 +9,20 @@ use Rattle.std.specs.Prelude.{List, [], ◌∷◌}
 abbrev targets : List PropId
 targets = Facets ∷ AffineHull ∷ PlacingTriangulation ∷ []
 
+pub put_hull-requires-clause-target : goal.put_hull-requires-clause-target
+put_hull-requires-clause-target c = has_listed _ targets Facets (ap (λ d. d.kind.targets) c.requires.empty ∙ c.requires.targets)
+
+pub put_hull-requires-clause-hull_target : goal.put_hull-requires-clause-hull_target
+put_hull-requires-clause-hull_target c = has_listed _ targets AffineHull (ap (λ d. d.kind.targets) c.requires.empty ∙ c.requires.targets)
+
 pub put_value-requires-clause-target : goal.put_value-requires-clause-target
-put_value-requires-clause-target c = has_listed _ targets Facets (ap (λ d. d.kind.targets) c.requires.empty ∙ c.requires.targets)
-
-pub put_value-requires-2-clause-target : goal.put_value-requires-2-clause-target
-put_value-requires-2-clause-target c = has_listed _ targets AffineHull (ap (λ d. d.kind.targets) c.in_ok-put_value.ensures.ok ∙ ap (λ d. d.kind.targets) c.requires.empty ∙ c.requires.targets)
-
-pub put_value-requires-3-clause-target : goal.put_value-requires-3-clause-target
-put_value-requires-3-clause-target c = has_listed _ targets PlacingTriangulation (ap (λ d. d.kind.targets) c.in_ok-put_value-2.ensures.ok ∙ ap (λ d. d.kind.targets) c.in_ok-put_value.ensures.ok ∙ ap (λ d. d.kind.targets) c.requires.empty ∙ c.requires.targets)
+put_value-requires-clause-target c = has_listed _ targets PlacingTriangulation (ap (λ d. d.kind.targets) c.in-Ok.ensures.put.draft ∙ ap (λ d. d.kind.targets) c.requires.empty ∙ c.requires.targets)
 
 pub returns-clause-sound : goal.returns-clause-sound
 returns-clause-sound c =
     let v = c.args.view.now in
     let view = c.cols.ensures.view in
     let p = c.in_ok-placed.placed in
+    let put = rw (c.cols.ensures.value, c.deref.ensures.value, c.deref-2.ensures.value) at c.in-Ok.ensures.put in
     three_sound v view c.requires.kind c.requires.targets p.parts.first.items p.parts.second.items p.facets.facets.items p.facets.hull.items p.cells c.in_ok-placed.ensures.placed
-    (rw c.deref.ensures.value at c.in_ok-facets.ensures.in_range) (rw c.deref-2.ensures.value at c.in_ok-hull.ensures.in_range) c.in_ok-facets.facets c.in_ok-hull.hull
-    c.args.draft.now c.put_value.new.draft c.put_value-2.new.draft c.put_value-3.new.draft (rw (c.deref.ensures.value, c.cols.ensures.value) at c.in_ok-facets.ensures.rows) (rw (c.deref-2.ensures.value, c.cols-2.ensures.value) at c.in_ok-hull.ensures.rows)
-    c.requires.empty c.in_ok-put_value.ensures.ok c.in_ok-put_value-2.ensures.ok c.in_ok-put_value-3.ensures.ok
+    put.in_range put.hull_in_range c.args.draft.now c.put_hull.new.draft c.put_value.new.draft c.requires.empty put.draft c.in_ok-put_value.ensures.ok

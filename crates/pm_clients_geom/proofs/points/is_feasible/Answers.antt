@@ -19,19 +19,19 @@ maximise_rows_by-requires-clause-inequality_cols c = rw (c.deref.ensures.value, 
 pub maximise_rows_by-requires-clause-equation_cols : goal.maximise_rows_by-requires-clause-equation_cols
 maximise_rows_by-requires-clause-equation_cols c = rw (c.deref.ensures.value, c.in_ok-objective.ensures, objective_length c.args.cols) c.requires.equation_cols
 
-pub returns-in-Ok-Infeasible-clause-found : goal.returns-in-Ok-Infeasible-clause-found
-returns-in-Ok-Infeasible-clause-found c =
-    let answer = rw c.in-Ok-Infeasible.field-0-is at c.in-Ok-Infeasible.ensures.answer in (
+pub returns-in-Infeasible-clause-found : goal.returns-in-Infeasible-clause-found
+returns-in-Infeasible-clause-found c =
+    let answer = rw c.in-Infeasible.is at c.in_ok-answer.ensures.answer in (
       λ t. absurd (let e : false ≡ true = t in cc),
       λ h. absurd (infeasible_has_none c.args.cols c.args.inequalities.now c.args.equations.now answer h),
     )
 
-pub returns-in-Ok-Optimal-clause-found : goal.returns-in-Ok-Optimal-clause-found
-returns-in-Ok-Optimal-clause-found c =
-    let answer = rw (c.in-Ok-Optimal.field-0-is, c.deref.ensures.value, c.in_ok-objective.ensures) at c.in-Ok-Optimal.ensures.answer in
+pub returns-in-Optimal-clause-found : goal.returns-in-Optimal-clause-found
+returns-in-Optimal-clause-found c =
+    let answer = rw (c.in-Optimal.is, c.deref.ensures.value, c.in_ok-objective.ensures) at c.in_ok-answer.ensures.answer in
     (λ t. optimal_has_point c.args.cols c.args.inequalities.now c.args.equations.now answer, λ h. refl)
 
-pub returns-in-Ok-Unbounded-clause-found : goal.returns-in-Ok-Unbounded-clause-found
-returns-in-Ok-Unbounded-clause-found c =
-    let answer = rw (c.in-Ok-Unbounded.field-0-is, c.deref.ensures.value, c.in_ok-objective.ensures) at c.in-Ok-Unbounded.ensures.answer in
+pub returns-clause-found : goal.returns-clause-found
+returns-clause-found c =
+    let answer = rw (c.in-Unbounded.is, c.deref.ensures.value, c.in_ok-objective.ensures) at c.in_ok-answer.ensures.answer in
     (λ t. unbounded_has_point c.args.cols c.args.inequalities.now c.args.equations.now answer, λ h. refl)
