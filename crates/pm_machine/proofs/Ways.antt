@@ -1,6 +1,6 @@
 -- The ways in which each command may end.
 use Rattle.pm_machine.specs.Machines.{NameRefusal, NewNameRefusal}
-use Rattle.pm_machine.specs.Steps.{CopyRefusal, CopyStep, DisableStep, Ensures, EnsureStep, EvidenceStep, ExplainStep, FileRead, GiveStep, Gives, HistoryStep, LoadRefusal, LoadStep, LookupStep, NewObjectRefusal, NewObjectStep, NewProgramRefusal, NewProgramStep, PropertiesRefusal, PropertyRefusal, RuleRefusal, RulesStep, SaveRefusal, SaveStep, ShowStep, TakeRefusal, TakeStep, TakeValue, UnloadRefusal, UnloadStep}
+use Rattle.pm_machine.specs.Steps.{CopyRefusal, CopyStep, DisableStep, Ensures, EnsureStep, EvidenceStep, ExplainStep, FileRead, GiveStep, Gives, HistoryStep, LoadRefusal, LoadStep, LookupStep, NewObjectRefusal, NewObjectStep, NewProgramRefusal, NewProgramStep, PropertiesRefusal, PropertyRefusal, RuleRefusal, RulesStep, SaveRefusal, SaveStep, ShowStep, TakeRefusal, TakeStep, TakeValue}
 
 pub ruleset new_name_ways = (NewNameRefusal.is_taken, NewNameRefusal.no_room)
 
@@ -35,8 +35,6 @@ pub ruleset lookup_ways = (LookupStep.is_shown)
 pub ruleset rules_ways = (RulesStep.is_listed)
 
 pub ruleset disable_ways = (DisableStep.is_refused, RuleRefusal.no_such_name)
-
-pub ruleset unload_ways = (UnloadStep.is_refused, UnloadRefusal.no_such_client, UnloadStep.is_unloaded)
 
 pub ruleset file_ways = (FileRead.is_loaded)
 

@@ -174,9 +174,22 @@ fn refuse_plan(
         × AreReasons book.now (map tally clients.now) object.now.state sub told
         × (seen r ≡ refused why (planned told table.rows.items (names_told book.now object.now.state)))) }
 {
-    let barred = reasons(alloc, book.rules(), clients, object, sub)?;
-    let names = names_told(alloc, book.rules(), object)?;
-    Ok(Reply::refused_by_plan(alloc, why, barred, table, names))
+    let barred = match reasons(alloc, book.rules(), clients, object, sub) {
+        Ok(barred) => barred,
+        Err(e) => {
+            drop(why);
+            drop(table);
+            return Err(e);
+        }
+    };
+    match names_told(alloc, book.rules(), object) {
+        Ok(names) => Ok(Reply::refused_by_plan(alloc, why, barred, table, names)),
+        Err(e) => {
+            drop(why);
+            drop(table);
+            Err(e)
+        }
+    }
 }
 
 // The plan, with the names of its rules and of the object's programs.

@@ -538,7 +538,6 @@ impl Session {
     }
 
     // `unload CLIENT`
-    #[tactic(auto, using(crate::proofs::Ways::unload_ways))]
     fn do_unload(&self, alloc: Global, client: &str, clients: &mut Vec<Box<dyn Client>>) -> Reply
         ensures { UnloadStep (machine_of self.now (map tally clients.old.items)) client.now
             (seen result)
@@ -780,6 +779,7 @@ impl Session {
         ensures never_falls { F.faults store.old ≤ F.faults store.new }
     {
         if self.spent {
+            drop(c);
             return Err(AllocError);
         }
         let ran = self.do_any(alloc, c, clients, store);
