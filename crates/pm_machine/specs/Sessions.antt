@@ -2,8 +2,8 @@
 use Rattle.indexmap.specs.IndexMap.{keys}
 use Rattle.std.specs.HashMap.{get_by_text}
 use Rattle.std.specs.Option.{option_map}
-use Rattle.std.specs.Prelude.{ℕ, Bool, IsTrue, Option, Some, List, [], map, string_bytes}
-use Rattle.pm_command.specs.Commands.{Spoken, new_object}
+use Rattle.std.specs.Prelude.{ℕ, Bool, true, false, IsTrue, Option, Some, List, [], map, string_bytes}
+use Rattle.pm_command.specs.Commands.{Spoken, new_object, look_up, tell_history, show_object, tell_evidence, show_rules, copy_object, tell_origin, make_object, build_object}
 use Rattle.pm_command.specs.Grammar.{is_sub}
 use Rattle.pm_client.specs.Starts.{Clients}
 use Rattle.pm_machine.specs.Machines.{Files, Machine}
@@ -36,3 +36,21 @@ is_spent s = s.spent
 abbrev pub MakesNamed : Spoken → Type 0
 MakesNamed (new_object ref text) = IsTrue (is_sub ref.sub)
 MakesNamed command = Unit {0}
+
+-- a command on no files that makes an object
+abbrev pub makes_object : Spoken → Bool
+makes_object (new_object ref text) = true
+makes_object (copy_object name to) = true
+makes_object (make_object to shape) = true
+makes_object (build_object builder names to) = true
+makes_object command = false
+
+-- a command that tells, and changes nothing
+abbrev pub only_tells : Spoken → Bool
+only_tells (look_up ref text) = true
+only_tells (tell_history name) = true
+only_tells (show_object name) = true
+only_tells (tell_evidence name label) = true
+only_tells show_rules = true
+only_tells (tell_origin ref text) = true
+only_tells command = false

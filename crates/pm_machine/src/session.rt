@@ -2,7 +2,7 @@
 
 ghost use Rattle.pm_machine.specs.Parts.{AllHonest, SavedInPart, StepInPart};
 ghost use Rattle.pm_rounds.specs.Running.{HasPlace};
-ghost use Rattle.pm_machine.specs.Sessions.{MakesNamed, book_of, is_spent, machine_at, machine_of};
+ghost use Rattle.pm_machine.specs.Sessions.{MakesNamed, book_of, is_spent, machine_at, machine_of, makes_object, only_tells};
 ghost use Rattle.pm_machine.specs.Machines.{Gains, shelf, Stays};
 ghost use Rattle.pm_machine.specs.Steps.{AllKept, CopyStep, DisableStep, DropStep, EnsureStep, EvidenceStep, ExplainStep, GiveStep, FileRead, HistoryStep, LoadStep, Looks, LookupStep, NewStep, OriginStep, NewObjectStep, NewProgramStep, RulesStep, SaveStep, ShowStep, Step, TakeStep, UnloadStep, is_program_word, named_at, part_named, type_word};
 ghost use Rattle.pm_command.specs.Commands.{blank, ensure_values, explain_values, give_value, is_on_files, seen_ref, spoken};
@@ -641,6 +641,60 @@ impl Session {
         }
     }
 
+    // The step of a command that only tells.
+    fn do_tell(
+        &self,
+        alloc: Global,
+        c: &Command,
+        clients: &[Box<dyn Client>],
+    ) -> Result<Reply, AllocError>
+        requires tells { only_tells (spoken c.now) ≡ true }
+        ensures { IfOk result (λ r. Step (book_of self.now)
+            (machine_of self.now (map tally clients.now)) (spoken c.now) (seen r)
+            (machine_of self.now (map tally clients.now))) }
+    {
+        match c {
+            Command::Lookup { obj, prop } => self.do_lookup(alloc, obj, prop, clients),
+            Command::History { name } => self.do_history(alloc, name, clients),
+            Command::Show { name } => self.do_show(alloc, name, clients),
+            Command::Evidence { name, label } => self.do_evidence(alloc, name, label, clients),
+            Command::Rules => self.do_rules(alloc, clients),
+            Command::Origin { obj, prop } => Ok(self.do_origin(alloc, obj, prop, clients)),
+            _ => unreachable!(),
+        }
+    }
+
+    // The step of a command that makes no object.
+    fn do_there(
+        &mut self,
+        alloc: Global,
+        c: &Command,
+        clients: &mut Vec<Box<dyn Client>>,
+    ) -> Result<Reply, AllocError>
+        requires spoken { spoken c.now ≢ blank }
+        requires there { makes_object (spoken c.now) ≡ false }
+        requires own { is_on_files (spoken c.now) ≡ false }
+        ensures step { IfOk result (λ r. Step (book_of self.old)
+            (machine_of self.old (map tally clients.old.items)) (spoken c.now) (seen r)
+            (machine_of self.new (map tally clients.new.items))) }
+        ensures part { OnErr result (StepInPart (book_of self.old)
+            (machine_of self.old (map tally clients.old.items)) (spoken c.now)
+            (machine_of self.new (map tally clients.new.items))) }
+        ensures book { book_of self.new ≡ book_of self.old }
+        ensures spent { is_spent self.new ≡ is_spent self.old }
+    {
+        match c {
+            Command::Take { obj, prop, json } => self.do_take(alloc, obj, prop, json, clients),
+            Command::Give { obj, prop } => self.do_give(alloc, obj, prop, clients),
+            Command::Ensure { obj, props } => self.do_ensure(alloc, obj, props, clients),
+            Command::Explain { obj, props } => self.do_explain(alloc, obj, props, clients),
+            Command::Disable { name, label } => self.do_disable(alloc, name, label, clients),
+            Command::Unload { client } => Ok(self.do_unload(alloc, client, clients)),
+            Command::DropObject { name } => Ok(self.do_drop(alloc, name, clients)),
+            _ => self.do_tell(alloc, c, clients),
+        }
+    }
+
     // The command's own step.
     fn do_step(
         &mut self,
@@ -661,26 +715,15 @@ impl Session {
         ensures spent { is_spent self.new ≡ is_spent self.old }
     {
         match c {
-            Command::Blank => unreachable!(),
             Command::New { obj, of } => self.do_new(alloc, obj.name, obj.sub, &of, clients),
-            Command::Take { obj, prop, json } => self.do_take(alloc, &obj, &prop, &json, clients),
-            Command::Give { obj, prop } => self.do_give(alloc, &obj, &prop, clients),
-            Command::Lookup { obj, prop } => self.do_lookup(alloc, &obj, &prop, clients),
-            Command::Ensure { obj, props } => self.do_ensure(alloc, &obj, &props, clients),
-            Command::Explain { obj, props } => self.do_explain(alloc, &obj, &props, clients),
-            Command::History { name } => self.do_history(alloc, &name, clients),
-            Command::Show { name } => self.do_show(alloc, &name, clients),
-            Command::Evidence { name, label } => self.do_evidence(alloc, &name, &label, clients),
-            Command::Rules => self.do_rules(alloc, clients),
-            Command::Disable { name, label } => self.do_disable(alloc, &name, &label, clients),
-            Command::Unload { client } => Ok(self.do_unload(alloc, &client, clients)),
             Command::Copy { name, new } => self.do_copy(alloc, &name, new, clients),
-            Command::DropObject { name } => Ok(self.do_drop(alloc, &name, clients)),
-            Command::Origin { obj, prop } => Ok(self.do_origin(alloc, &obj, &prop, clients)),
-            Command::Load { .. } => unreachable!(),
-            Command::Save { .. } => unreachable!(),
             Command::Make { new, shape } => self.do_make(alloc, new, shape, clients),
             Command::Build { what, new } => self.do_build(alloc, &what, new, clients),
+            there => {
+                let ran = self.do_there(alloc, &there, clients);
+                drop(there);
+                ran
+            }
         }
     }
 
