@@ -160,6 +160,11 @@ pub fn object_of(alloc: Global, file: FileObject) -> Result<Object, AllocError>
     ensures { IfOk result (λ o. o.state ≡ object_of (file_of file)) }
 {
     let mut object = Object::new(alloc, file.of);
-    add_all(&mut object, file.values)?;
-    Ok(object)
+    match add_all(&mut object, file.values) {
+        Ok(()) => Ok(object),
+        Err(e) => {
+            drop(object);
+            Err(e)
+        }
+    }
 }
