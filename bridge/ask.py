@@ -1,6 +1,7 @@
 """Asks this program about a data file: what it holds, or the values of properties."""
 
 import difflib
+import json
 import os
 import re
 import shutil
@@ -13,11 +14,17 @@ import looks
 import why
 from polymake_files import data_text, read_polymake
 from properties import PROGRAM_PROPERTIES, Kind, by_name
-from refusals import Notes, Refusal
+from refusals import WORD, Notes, Refusal, shown, told_path
+from replies import names_read_over
 from session import Ended, Session
 
 PROPERTY = re.compile(r"(?:([A-Za-z][A-Za-z0-9_]{0,31})\.)?([A-Z][A-Z0-9_]*)", re.ASCII)
 OBJECT = "p"
+
+# The plain descriptions, each by both halves; what describes a fan; and what is no value of an object that is described.
+PLAIN = (("POINTS", "INPUT_LINEALITY"), ("INEQUALITIES", "EQUATIONS"))
+PLAIN_OF_FANS = ("VERTICES", "LINEALITY_SPACE", "MAXIMAL_CONES")
+GIVEN = ("CONE_AMBIENT_DIM", "SITES", "SITE_HEIGHTS")
 
 
 class Asked:
@@ -36,7 +43,7 @@ class Asked:
         found = PROPERTY.fullmatch(word)
         if not found:
             told = "is no property, whose names are like N_FACETS: docs/properties.md has all"
-            raise Refusal(None, f"'{word}' {told}")
+            raise Refusal(None, f"{shown(word)} {told}")
         program, name = found.groups()
         names = [it.name for it in self.thing.programs]
         if program not in (None, "LP"):
@@ -94,9 +101,35 @@ def not_held(thing):
     return [known[it] for it in WORTH_ASKING if it in known and it not in thing.values][:2]
 
 
+def believed(thing):
+    """The names of the values that are taken as they stand beside a plain description."""
+    plain = PLAIN_OF_FANS if thing.type_name == "Fan" else ()
+    for pair in PLAIN:
+        if not plain and any(thing.has(it) for it in pair):
+            plain = pair
+    known = by_name(thing.type_name)
+    return [k for k, it in known.items() if thing.has(it.polytope) and it.polytope not in (*plain, *GIVEN)]
+
+
+def tell_believed(asked):
+    """Which values of the file count as given, beyond one description."""
+    names = believed(asked.thing)
+    if names:
+        say(f"{told_path(asked.path)}: believed: {', '.join(names)}")
+
+
+def load_reply(lines):
+    """The reply to `load` in one line, whose names have no mark that a terminal would obey."""
+    names = names_read_over(lines)
+    if not names:
+        return "\n".join(lines)
+    told = [it if WORD.fullmatch(it) else json.dumps(it) for it in names]
+    return f"ok ignored {' '.join(told)}"
+
+
 def held_lines(asked):
     """What a file holds, and what to type."""
-    thing = asked.thing
+    thing, path = asked.thing, told_path(asked.path)
     held = [
         f"{item.name(thing.type_name)}{count_of(thing, item)}"
         for name in by_name(thing.type_name)
@@ -104,13 +137,13 @@ def held_lines(asked):
         if item.polytope in thing.values
     ]
     kind = f"a {thing.type_name.lower()} {asked.form}"
-    yield f"{asked.path}: {kind}, with {', '.join(held) or 'no values'}"
+    yield f"{path}: {kind}, with {', '.join(held) or 'no values'}"
     for program in thing.programs:
-        yield f"{asked.path}: its linear program {program.name}, with {', '.join(program.values)}"
+        yield f"{path}: its linear program {program.name}, with {', '.join(program.values)}"
     example = " ".join(not_held(thing))
     if thing.programs:
         example = f"{thing.programs[0].name}.MAXIMAL_VALUE"
-    told = f"./polymake {asked.path} {example}; docs/properties.md has all of them"
+    told = f"./polymake {path} {example}; docs/properties.md has all of them"
     yield f"ask for properties: {told}"
 
 
@@ -160,20 +193,21 @@ def tell_why(session, asked, refused):
         if reply.startswith("no 10 ")
     ]
     if names:
-        for line in why.lines(session, asked.thing, OBJECT, asked.path, names):
+        for line in why.lines(session, asked.thing, OBJECT, told_path(asked.path), names):
             say(line)
 
 
 def run(asked, options, folder):
     """Exit status 0, or 1 where a line was refused."""
     wanted = [it for word in options.properties for it in asked.references(word)]
-    (folder / "p.json").write_text(asked.data)
+    (folder / "p.json").write_bytes(asked.data.encode())
+    tell_believed(asked)
     with Session(options.program, program_words(options, folder), folder) as session:
         lines = session.ask(f"load {OBJECT} p.json")
-        print("\n".join(lines), flush=True)
+        print(load_reply(lines), flush=True)
         if lines[0].startswith("no "):
             told = "docs/from-polymake.md has what a file may hold"
-            say(f"{asked.path}: the program refuses it, '{lines[0]}': {told}")
+            say(f"{told_path(asked.path)}: the program refuses it, {shown(lines[0])}: {told}")
             return 1
         return 1 if give_all(session, asked, wanted) else 0
 
@@ -182,7 +216,7 @@ def answered(options, notes):
     """The exit status of a call whose file is understood."""
     asked = Asked(options.file, notes)
     for line, text in notes.told:
-        say(f"{options.file}:{line}: {text}")
+        say(f"{told_path(options.file)}:{line}: {text}")
     if not options.properties:
         print("\n".join(held_lines(asked)), flush=True)
         return 0
@@ -196,10 +230,10 @@ def main(arguments=None):
         return answered(options, Notes())
     except Refusal as refusal:
         line = "" if refusal.line is None else f"{refusal.line}:"
-        say(f"{options.file}:{line} {refusal.text}")
+        say(f"{told_path(options.file)}:{line} {refusal.text}")
         return 2
     except Ended as ended:
-        print("".join(f"{it}\n" for it in ended.lines), end="")
+        print("".join(f"{load_reply([it])}\n" for it in ended.lines), end="")
         if ended.status == 2:
             say("the program does not take these words; ./polymake --help tells them")
         return ended.status

@@ -7,6 +7,8 @@ import sys
 import tempfile
 from pathlib import Path
 
+from refusals import shown
+
 STATEMENT = re.compile(rb"#[^\n]*|;")
 REFUSED = 7
 
@@ -42,7 +44,7 @@ def told(program, name, book):
         book.decode("utf-8")
     except UnicodeDecodeError as fault:
         line = book.count(b"\n", 0, fault.start) + 1
-        return f"the book '{name}' has bytes in line {line} that are no UTF-8"
+        return f"the book {shown(name)} has bytes in line {line} that are no UTF-8"
     ends = ends_of(book)
     count = first_refused(program, book, ends)
     begin = ends[count - 1] if count else 0
@@ -50,12 +52,12 @@ def told(program, name, book):
     at = begin + len(re.match(rb"(\s|#[^\n]*\n?)*", book[begin:end])[0])
     line = book.count(b"\n", 0, at) + 1
     column = at - book.rfind(b"\n", 0, at)
-    shown = " ".join(book[at:end].decode("utf-8").split())[:100]
-    where = f"in the statement '{shown}' at line {line}, column {column}"
-    if not shown:
+    statement = " ".join(book[at:end].decode("utf-8").split())[:100]
+    where = f"in the statement {shown(statement, 100)} at line {line}, column {column}"
+    if not statement:
         where = "at its end"
     good = "the command 'rules' prints one that is not refused"
-    return f"the book '{name}' is refused: its first fault is {where}; {good}"
+    return f"the book {shown(name)} is refused: its first fault is {where}; {good}"
 
 
 def main():

@@ -3,9 +3,9 @@
 from dataclasses import dataclass, field
 
 import command
-from entries import WHOLE, decimal_of, row_of, row_text, shown
+from entries import WHOLE, decimal_of, row_of, row_text
 from properties import Program, Thing
-from refusals import Fault, Refusal
+from refusals import Fault, Refusal, shown
 from polymake_files import read_shown
 from scripts import script_lines
 
@@ -55,7 +55,7 @@ class CddFile:
 def words_of_lines(text):
     """The lines that have words and are no comments: their numbers and words."""
     is_size = False
-    for number, line in enumerate(text.splitlines(), 1):
+    for number, line in enumerate(command.lines_of(text), 1):
         words = line.split()
         if words and (not words[0].startswith("*") or is_size and words[0] == UNTOLD):
             yield number, words

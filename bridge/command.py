@@ -1,10 +1,11 @@
 """The frame of each bridge: its words, what it reads, what it tells, and its exit status."""
 
 import argparse
+import re
 import sys
 from dataclasses import dataclass, field
 
-from refusals import Notes, Refusal
+from refusals import Notes, Refusal, told_path
 
 
 @dataclass
@@ -59,7 +60,7 @@ def run(words, convert, arguments=None, streams=None):
     """Exit status 0, or 2 where something was refused; then nothing is written."""
     streams = streams or Streams()
     options, notes = words.parse_args(arguments), Notes()
-    place = options.file or "standard input"
+    place = told_path(options.file) if options.file else "standard input"
     try:
         written = convert(options, text_at(options.file, streams.given), notes)
     except Refusal as refusal:
@@ -70,6 +71,11 @@ def run(words, convert, arguments=None, streams=None):
         print(f"{words.prog}: {place}:{line}: {text}", file=streams.told)
     streams.out.write(written)
     return 0
+
+
+def lines_of(text):
+    """The lines of a text, which end with LF, CR or both: no other mark ends a line of a file."""
+    return re.split(r"\r\n|\n|\r", text)
 
 
 def joined(lines):

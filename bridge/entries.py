@@ -3,7 +3,7 @@
 import re
 from fractions import Fraction
 
-from refusals import Fault
+from refusals import Fault, shown
 
 FRACTION = re.compile(r"-?[0-9]+(/[0-9]+)?", re.ASCII)
 WHOLE = re.compile(r"-?[0-9]+", re.ASCII)
@@ -44,12 +44,6 @@ def whole_of(entry):
     if len(entry) > MOST_DIGITS:
         raise Fault(f"a number of more than {MOST_DIGITS} digits")
     return int(entry)
-
-
-def shown(entry):
-    """What stands there, cut where it is long."""
-    text = entry if isinstance(entry, str) else str(entry)
-    return f"'{text}'" if len(text) <= 40 else f"'{text[:40]}..'"
 
 
 def row_of(entries):

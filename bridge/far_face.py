@@ -29,10 +29,12 @@ OF_FACETS = {
 IN_DOUBT = "the polyhedron may be unbounded, and then polymake may have left the far face out"
 
 
-def rank(rows):
-    """How many of the rows are independent."""
-    basis = []
+def rank(rows, most=None):
+    """How many of the rows are independent; no more are looked for than so many, or than columns."""
+    basis, most = [], most or len(rows and rows[0])
     for row in rows:
+        if len(basis) == most:
+            break
         for it, at in basis:
             if row[at]:
                 row = [x - row[at] / it[at] * y for x, y in zip(row, it)]
@@ -65,6 +67,16 @@ def by_points(thing):
 def has_far_row(thing):
     """Whether the far face is among the facets."""
     return any(it[0] > 0 and not any(it[1:]) for it in thing.rows("FACETS"))
+
+
+def is_at_most_a_ray(thing):
+    """Whether a cone is said to have the dimension 1 or 0, or its generators show it."""
+    if thing.values.get("CONE_DIM", 2) < 2:
+        return True
+    for pair in DESCRIPTIONS[::2]:
+        if thing.has(pair[0]) and rank(thing.rows(pair[0]) + thing.rows(pair[1]), 2) < 2:
+            return True
+    return False
 
 
 def description_of(thing):

@@ -4,7 +4,7 @@ import json
 import re
 from dataclasses import dataclass
 
-from refusals import Fault, Refusal
+from refusals import Fault, Refusal, told_name
 from values import READER
 
 WHITE = re.compile(r"[ \t\r\n]*")
@@ -70,7 +70,7 @@ def members(text):
     while mark == ",":
         member, at = member_at(text, at)
         if member.key in found:
-            raise Refusal(member.line, f"the key '{member.key}' stands twice")
+            raise Refusal(member.line, f"the key {told_name(member.key)} stands twice")
         found[member.key] = member
         mark, at = expect(text, at, ",}", "a comma or the end of the object")
     if behind_white(text, at) != len(text):

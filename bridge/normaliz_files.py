@@ -4,9 +4,9 @@ import re
 from dataclasses import dataclass, field
 
 import command
-from entries import WHOLE, fraction_of, shown
+from entries import WHOLE, fraction_of
 from properties import Thing
-from refusals import Fault, Refusal
+from refusals import Fault, Refusal, shown
 from scripts import script_lines
 
 TOKEN = re.compile(r"/\*.*?\*/|[\[\]]|[^\s\[\],;]+|[,;\n]", re.S)

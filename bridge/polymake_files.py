@@ -17,13 +17,18 @@ from properties import (
     Thing,
     by_name,
 )
-from refusals import Fault, Refusal
+from refusals import Fault, Refusal, quoted, shown, told_name
 from replies import read_replies
 from scripts import NAME, script_lines
 from values import compact, put_program_value, put_value, written
 
 NAMESPACE = {"polymake": ["https://polymake.org", "4.6"]}
 PROFILE = re.compile(r'"_profile"\s*:\s*2\s*[,}]')
+
+# Why one description alone is taken of a cone of dimension 1.
+OF_A_RAY = "of a cone of dimension 1, polymake's values depend on which was asked first"
+
+H_VECTOR = "polymake's is the toric one, which is that of here where SIMPLICIAL is true"
 
 # What polymake names a subobject that has no name.
 UNNAMED = re.compile(r"unnamed#[0-9]+")
@@ -45,7 +50,8 @@ def type_of(found):
     if not named:
         *others, last = TYPES.values()
         known = f"{', '.join(others)} nor {last}"
-        raise Refusal(member.line, f"the type {json.dumps(member.value)} is neither {known}")
+        told = quoted(member.value) if isinstance(member.value, str) else "of '_type'"
+        raise Refusal(member.line, f"the type {told} is neither {known}")
     return named
 
 
@@ -57,13 +63,13 @@ def attachments(found):
     return {k for k, it in attributes.items() if isinstance(it, dict) and it.get("attachment")}
 
 
-def why_left(member, items, attached):
+def why_left(member, items, attached, saved):
     """Why a member is left out, or None where it is taken."""
     if member.key in attached:
         return "an attachment, which is no property"
     if member.key not in items:
         return "no property that this program takes"
-    if not items[member.key].is_of_polymake:
+    if not saved and not items[member.key].is_of_polymake:
         return "polymake has it in another form"
     return "it is undefined in the file" if member.value is None else None
 
@@ -95,7 +101,8 @@ def chosen(found, only, type_name, items):
     names = {it.polytope: it.name(type_name) for it in PROPERTIES}
     for name in only:
         if name not in items and not (name == "LP" and type_name == "Polytope"):
-            raise Refusal(None, f"'{name}' is asked for, and no property that this program takes")
+            told = "is asked for, and no property that this program takes"
+            raise Refusal(None, f"{shown(name)} {told}")
         if name not in found:
             raise Refusal(None, f"{name}: it is asked for, and the file does not have it")
     for first, second in PAIRS.items():
@@ -138,9 +145,47 @@ def leave_out_in_doubt(thing, found, notes):
         notes.tell(found["FACETS"].line, f"FACETS: {told}")
 
 
+def keep_of_a_ray(thing, found, notes):
+    """Keeps one description alone of a cone of dimension 1; of other cones N_FACETS may tell that."""
+    names = {it.polytope: it.name(thing.type_name) for it in PROPERTIES}
+    if far_face.is_at_most_a_ray(judged(found, by_name(thing.type_name), thing.type_name)):
+        if far_face.description_of(thing) is not None:
+            left = [names[it] for it in far_face.keep_description(thing)[0]]
+            if left:
+                notes.tell(found[left[0]].line, f"{', '.join(left)}: {OF_A_RAY}: left out")
+    elif thing.values.get("N_FACETS") == 0:
+        del thing.values["N_FACETS"]
+        notes.tell(found["N_FACETS"].line, "N_FACETS: polymake has 0 of a ray too: left out")
+
+
+def leave_out_toric(thing, found, notes):
+    """Leaves out an h-vector that may be another one than here."""
+    is_simplicial = "SIMPLICIAL" in found and found["SIMPLICIAL"].value is True
+    if "H_VECTOR" in thing.values and not is_simplicial:
+        del thing.values["H_VECTOR"]
+        notes.tell(found["H_VECTOR"].line, f"H_VECTOR: {H_VECTOR}: left out")
+
+
+def leave_out_other_senses(thing, found, notes):
+    """Leaves out what polymake has in another sense than this program."""
+    if thing.type_name == "Cone":
+        keep_of_a_ray(thing, found, notes)
+    elif far_face.are_whole(judged(found, by_name(thing.type_name), thing.type_name)):
+        leave_out_of_empty(thing, found, notes)
+    elif far_face.may_lack(thing):
+        leave_out_in_doubt(thing, found, notes)
+    leave_out_toric(thing, found, notes)
+
+
 def is_saved(text):
-    """Whether this program saved the file: then its facets are all there are."""
-    return bool(PROFILE.search(text))
+    """Whether this program saved the file: then its values are meant as here."""
+    if not PROFILE.search(text):
+        return False
+    try:
+        profile = members(text).get("_profile")
+    except Refusal:
+        return False
+    return profile is not None and profile.value == 2 and isinstance(profile.value, int)
 
 
 def name_of(entry, at, taken, tell):
@@ -151,7 +196,7 @@ def name_of(entry, at, taken, tell):
     others = (f"lp{it}" for it in range(at, at + 2 * MOST_PROGRAMS))
     new = next(it for it in others if it not in taken)
     if isinstance(name, str) and not UNNAMED.fullmatch(name):
-        tell(f"the program '{name}' is {new} here")
+        tell(f"the program {told_name(name)} is {new} here")
     return new
 
 
@@ -176,7 +221,8 @@ def put_programs(thing, value, tell):
         if "LINEAR_OBJECTIVE" in entry:
             put_objective(thing, program, entry)
     if left:
-        tell(f"{', '.join(sorted(left))}: found anew from LINEAR_OBJECTIVE: left out")
+        names = ", ".join(told_name(it) for it in sorted(left))
+        tell(f"{names}: found anew from LINEAR_OBJECTIVE: left out")
     if len(entries) > MOST_PROGRAMS:
         tell(f"{len(entries)} programs, of which {MOST_PROGRAMS} are taken, and the others left out")
 
@@ -204,16 +250,16 @@ def read_polymake(text, notes, only=None):
         raise Refusal(
             1, "a file of polymake before version 4: let polymake load it and save it anew"
         )
-    found = members(text)
+    found, saved = members(text), is_saved(text)
     thing = Thing(type_of(found))
     items, attached = by_name(thing.type_name), attachments(found)
     for member in chosen(found, only, thing.type_name, items):
         if member.key.startswith("_"):
             continue
         is_program = member.key == "LP" and thing.type_name == "Polytope"
-        why = None if is_program else why_left(member, items, attached)
+        why = None if is_program else why_left(member, items, attached, saved)
         if why:
-            notes.tell(member.line, f"{member.key}: {why}: left out")
+            notes.tell(member.line, f"{told_name(member.key)}: {why}: left out")
             continue
         try:
             put_member(thing, member, items, notes)
@@ -223,10 +269,8 @@ def read_polymake(text, notes, only=None):
             raise Refusal(line, f"{member.key}: {row}{fault.text}") from None
     check_points(thing, found)
     check_fan(thing, found)
-    if is_saved(text) or far_face.are_whole(judged(found, items, thing.type_name)):
-        leave_out_of_empty(thing, found, notes)
-    elif far_face.may_lack(thing):
-        leave_out_in_doubt(thing, found, notes)
+    if not saved:
+        leave_out_other_senses(thing, found, notes)
     return thing
 
 
@@ -251,7 +295,9 @@ def check_halves(thing):
 
 
 def leave_out_foreign(thing, notes):
-    """Leaves out what polymake's files do not hold in this form."""
+    """Leaves out what polymake's files do not hold in this form, or in another sense."""
+    if thing.values.get("SIMPLICIAL") is not True and thing.values.pop("H_VECTOR", None) is not None:
+        notes.tell(1, f"H_VECTOR: {H_VECTOR}, and this is not shown: left out")
     for item in PROPERTIES:
         if not item.is_of_polymake and thing.values.pop(item.polytope, None) is not None:
             notes.tell(1, f"{item.name(thing.type_name)}: polymake has it in another form: left out")
@@ -267,6 +313,8 @@ def why_none(thing, program, name):
         return "polymake has none"
     if name.endswith("_FACE") and not thing.has("VERTICES"):
         return "it counts VERTICES, which are not shown"
+    if name.endswith("_FACE") and (thing.rows("LINEALITY_SPACE") or not far_face.are_finite(thing.rows("VERTICES"))):
+        return "of an unbounded polyhedron, polymake counts other rays"
     if program.values[name] == {"MAXIMAL_VALUE": "-inf", "MINIMAL_VALUE": "inf"}.get(name):
         return "there is no point, and then polymake has none"
     return None

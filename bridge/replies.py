@@ -15,6 +15,41 @@ VALUE = re.compile(
 # Words that begin other replies, after which a label or a name stands that may look like a property.
 OTHERS = ("rule", "excluded", "barred", "evidence", "program")
 
+# The names that `load` read over: words, or JSON texts of names that are none.
+NAME_READ_OVER = re.compile(r' ([A-Za-z_][A-Za-z0-9_.]*|"(?:[^"\\\x00-\x1f]|\\.)*")', re.ASCII)
+
+
+def names_read_over(lines):
+    """The names of the reply `ok` or `ok ignored NAME ..` to `load`, or None where it is none.
+
+    Older programs wrote each name as it stands: what is no list of names is then one name.
+    """
+    if lines == ["ok"]:
+        return []
+    told = "\n".join(lines)
+    if not told.startswith("ok ignored "):
+        return None
+    found, at = [], len("ok ignored")
+    while name := NAME_READ_OVER.match(told, at):
+        found.append(name_of(name[1]))
+        at = name.end()
+    return found if at == len(told) and None not in found else [told[len("ok ignored ") :]]
+
+
+def name_of(told):
+    """A name by what a reply tells of it, or None."""
+    if not told.startswith('"'):
+        return told
+    try:
+        return json.loads(told)
+    except json.JSONDecodeError:
+        return None
+
+
+def lines_of(text):
+    """The lines of replies: a name in quotes may hold any mark but LF."""
+    return [it.removesuffix("\r") for it in text.removesuffix("\n").split("\n")] if text else []
+
 
 def value_lines(lines):
     """Of each line with a value: its number, the object, its program, the property and the text."""
@@ -69,7 +104,7 @@ def put_shown(thing, sub, prop, value):
 def read_replies(text, type_name, name=None):
     """The values of one object that the replies show, and of its linear programs."""
     thing, texts = Thing(type_name), {}
-    for number, _, sub, prop, shown in one_object(list(value_lines(text.splitlines())), name):
+    for number, _, sub, prop, shown in one_object(list(value_lines(lines_of(text))), name):
         known = by_name(type_name) if sub is None else PROGRAM_PROPERTIES
         if prop not in known or sub is not None and type_name != "Polytope":
             kind = type_name.lower() if sub is None else "linear program"

@@ -57,7 +57,7 @@ class Part:
 
 def lines_of(text):
     """The lines that have something beside a comment, each with its number."""
-    for number, line in enumerate(text.removeprefix("\ufeff").splitlines(), 1):
+    for number, line in enumerate(command.lines_of(text.removeprefix("\ufeff")), 1):
         kept = line.partition("#")[0].strip()
         if kept:
             yield number, kept

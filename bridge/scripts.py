@@ -3,7 +3,7 @@
 import re
 
 from properties import PROPERTIES, Kind
-from refusals import Refusal
+from refusals import Refusal, shown
 from values import compact, written
 
 NAME = re.compile(r"[A-Za-z][A-Za-z0-9_]{0,31}", re.ASCII)
@@ -11,7 +11,8 @@ NAME = re.compile(r"[A-Za-z][A-Za-z0-9_]{0,31}", re.ASCII)
 
 def check_name(name):
     if not NAME.fullmatch(name):
-        raise Refusal(None, f"'{name}' is no name: a letter, then at most 31 letters, digits and _")
+        told = "is no name: a letter, then at most 31 letters, digits and _"
+        raise Refusal(None, f"{shown(name)} {told}")
 
 
 def script_lines(name, thing):

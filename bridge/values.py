@@ -4,7 +4,7 @@ import json
 
 from entries import fraction_of, row_of, whole_of
 from properties import PROGRAM_PROPERTIES, Kind
-from refusals import Fault
+from refusals import Fault, shown, told_name
 
 
 class Inexact:
@@ -31,7 +31,7 @@ def distinct(pairs):
     found = {}
     for key, value in pairs:
         if key in found:
-            raise Fault(f"the key '{key}' stands twice")
+            raise Fault(f"the key {told_name(key)} stands twice")
         found[key] = value
     return found
 
@@ -73,7 +73,7 @@ def sparse_row(row, columns):
         if key == "_dim":
             continue
         if not key.isascii() or not key.isdigit() or str(int(key)) != key or int(key) >= length:
-            raise Fault(f"'{key}' is no place in a row of {length}")
+            raise Fault(f"{shown(key)} is no place in a row of {length}")
         dense[int(key)] = fraction_of(entry)
     return dense
 
