@@ -99,6 +99,7 @@ for my $path (@ARGV) {
     my $thing = load($path);
     my $is_cone = $thing->type->full_name =~ /Cone/;
     for my $name ($is_cone ? qw(%s) : qw(%s)) { $thing->give($name); }
+    eval { $thing->give("H_VECTOR"); } unless $is_cone;
     save($thing, "$path.saved");
 }
 """

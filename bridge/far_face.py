@@ -3,6 +3,8 @@ starts from INEQUALITIES, polymake's FACETS leave the far face x0 >= 0 out, and 
 finds of them. Here the far face is a facet wherever it is one of the cone over the polyhedron.
 """
 
+from fractions import Fraction
+
 # The descriptions by both their halves: the first is taken where the facets of a file are in doubt.
 DESCRIPTIONS = (
     ("POINTS", "INPUT_LINEALITY"),
@@ -29,19 +31,30 @@ OF_FACETS = {
 IN_DOUBT = "the polyhedron may be unbounded, and then polymake may have left the far face out"
 
 
-def rank(rows, most=None):
-    """How many of the rows are independent; no more are looked for than so many, or than columns."""
+def reduced(row, basis):
+    """The row modulo a basis: 0 in its pivot columns, one after the other."""
+    for it, at in basis:
+        if row[at]:
+            row = [x - row[at] / it[at] * y for x, y in zip(row, it)]
+    return row
+
+
+def basis_of(rows, most=None):
+    """A basis of the rows' span with pivot columns; no more than so many rows are looked for."""
     basis, most = [], most or len(rows and rows[0])
     for row in rows:
         if len(basis) == most:
             break
-        for it, at in basis:
-            if row[at]:
-                row = [x - row[at] / it[at] * y for x, y in zip(row, it)]
+        row = reduced(row, basis)
         pivot = next((at for at, it in enumerate(row) if it), None)
         if pivot is not None:
             basis.append((row, pivot))
-    return len(basis)
+    return basis
+
+
+def rank(rows, most=None):
+    """How many of the rows are independent, up to so many."""
+    return len(basis_of(rows, most))
 
 
 def are_finite(rows):
@@ -65,18 +78,25 @@ def by_points(thing):
 
 
 def has_far_row(thing):
-    """Whether the far face is among the facets."""
-    return any(it[0] > 0 and not any(it[1:]) for it in thing.rows("FACETS"))
+    """Whether the far face is among the facets, whose rows stand modulo the affine hull."""
+    rows, basis = thing.rows("FACETS"), basis_of(thing.rows("AFFINE_HULL"))
+    far = reduced([1, *[0] * (len(rows[0]) - 1)], basis) if rows else []
+    return any(far) and any(is_multiple(reduced(it, basis), far) for it in rows)
 
 
-def is_at_most_a_ray(thing):
-    """Whether a cone is said to have the dimension 1 or 0, or its generators show it."""
-    if thing.values.get("CONE_DIM", 2) < 2:
-        return True
-    for pair in DESCRIPTIONS[::2]:
-        if thing.has(pair[0]) and rank(thing.rows(pair[0]) + thing.rows(pair[1]), 2) < 2:
-            return True
-    return False
+def is_multiple(row, other):
+    """Whether a row is a positive multiple of another one, which is not 0."""
+    at = next(at for at, it in enumerate(other) if it)
+    factor = Fraction(row[at]) / other[at]
+    return factor > 0 and row == [factor * it for it in other]
+
+
+def is_of_dimension_1(thing):
+    """Whether a cone has the dimension 1, as is said or by its generators; None where nothing tells it."""
+    if thing.has("CONE_DIM"):
+        return thing.values["CONE_DIM"] == 1
+    pair = next((it for it in DESCRIPTIONS[::2] if thing.has(it[0])), None)
+    return pair and rank(thing.rows(pair[0]) + thing.rows(pair[1]), 2) == 1
 
 
 def description_of(thing):

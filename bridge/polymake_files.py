@@ -146,14 +146,14 @@ def leave_out_in_doubt(thing, found, notes):
 
 
 def keep_of_a_ray(thing, found, notes):
-    """Keeps one description alone of a cone of dimension 1; of other cones N_FACETS may tell that."""
+    """Keeps one description alone of a cone of dimension 1; where none tells it, N_FACETS may be wrong."""
     names = {it.polytope: it.name(thing.type_name) for it in PROPERTIES}
-    if far_face.is_at_most_a_ray(judged(found, by_name(thing.type_name), thing.type_name)):
-        if far_face.description_of(thing) is not None:
-            left = [names[it] for it in far_face.keep_description(thing)[0]]
-            if left:
-                notes.tell(found[left[0]].line, f"{', '.join(left)}: {OF_A_RAY}: left out")
-    elif thing.values.get("N_FACETS") == 0:
+    is_so = far_face.is_of_dimension_1(judged(found, by_name(thing.type_name), thing.type_name))
+    if is_so and far_face.description_of(thing) is not None:
+        left = [names[it] for it in far_face.keep_description(thing)[0]]
+        if left:
+            notes.tell(found[left[0]].line, f"{', '.join(left)}: {OF_A_RAY}: left out")
+    elif is_so is not False and thing.values.get("N_FACETS") == 0:
         del thing.values["N_FACETS"]
         notes.tell(found["N_FACETS"].line, "N_FACETS: polymake has 0 of a ray too: left out")
 

@@ -194,7 +194,8 @@ def put_value(thing, item, value):
             agree(thing, thing.values[item.polytope])
         return
     rows, columns = read_matrix(value)
-    if columns is not None and item.polytope != "F2_VECTOR":
+    is_told = columns is not None and (rows or columns)
+    if is_told and item.polytope != "F2_VECTOR":
         agree(thing, columns)
     thing.values[item.polytope] = rows
 
