@@ -22,7 +22,7 @@ from answers import canonical
 from json_places import members
 from polymake_files import read_polymake
 from properties import PROGRAM_PROPERTIES, TYPES, Program as LinearProgram, Thing, by_name
-from refusals import Fault, Notes
+from refusals import Fault, Notes, Refusal
 from replies import read_replies
 from scripts import script_lines
 from values import put_program_value, put_value, read_row
@@ -195,7 +195,7 @@ def save_all(folder):
     if missing:
         sys.exit(f'polymake did not save {", ".join(missing)}: {ran.stderr[-2000:]}')
     told = subprocess.run(['polymake', '--version'], env=kept, capture_output=True, text=True).stdout
-    return told.split('\n')[0]
+    return told.strip().split('\n')[0]
 
 
 def read_text(path):
@@ -341,7 +341,11 @@ class Compared:
 
     def wrongly_taken(self):
         """The names of what the bridge takes and is another value than here."""
-        thing = read_polymake(self.text, Notes())
+        try:
+            thing = read_polymake(self.text, Notes())
+        except Refusal as refusal:
+            yield f'nothing: {refusal.text}'
+            return
         for name in thing.values:
             same = self.is_same(name)
             if same is None and name in DESCRIPTIONS['INEQUALITIES']:
@@ -368,11 +372,11 @@ def compare(program, folder):
             told.setdefault(('LP', prop), {True: [], False: [], None: []})[same].append(name)
         for prop in it.wrongly_taken():
             taken += 1
-            print(f'{name}: the bridge takes {prop}, which is another value here')
+            print(f'{name}: the bridge takes, other than here, {prop}')
     for (kind, prop), names in told.items():
         others = f': {" ".join(dict.fromkeys(names[False]))}' if names[False] else ''
         print(f'{kind} {prop}: {len(names[True]) + len(names[False])} values, {len(names[False])} others{others}')
-    print(f'{count} files; {taken} values that the bridge takes are others')
+    print(f'{count} files; {taken} values that the bridge takes are others than here')
     return taken
 
 
