@@ -171,11 +171,11 @@ def check_program(tried, case):
     return '\n'.join(lines)
 
 
-def asked(tried, text, properties):
-    """What ./polymake FILE PROP.. writes, tells and ends with, but for the wrapper."""
+def asked(tried, text, properties, *words):
+    """What ./polymake FILE PROP.. ends with, writes and tells, but for the wrapper."""
     path, out, told = tried.path(text), io.StringIO(), io.StringIO()
     with contextlib.redirect_stdout(out), contextlib.redirect_stderr(told):
-        status = ask.main(['--program', tried.program, '--', path, *properties])
+        status = ask.main(['--program', tried.program, *words, '--', path, *properties])
     return status, out.getvalue(), told.getvalue()
 
 
@@ -246,19 +246,22 @@ def check_others(tried, name):
                 tried.tells(case, f'it {what} marks as they stand: {written!r:.200}')
 
 
+def check_evidence(tried, name):
+    """bridge/check-evidence, with the name as a type and as a label."""
+    case = Case('what check-evidence reads', name, '', '')
+    for text, line, status in ((json.dumps({'_type': name}), 'evidence a stored E1', 2), (file_of(), f'evidence {name} stored E1', None)):
+        ran = subprocess.run([f'{TOP}/bridge/check-evidence', tried.path(text)], input=f'{line}\n'.encode(), capture_output=True)
+        tried.wants(case, 'its status', ran.returncode in (1, 2) if status is None else ran.returncode == status, True)
+        told = (ran.stdout + ran.stderr).decode()
+        if not printable(told):
+            tried.tells(case, f'it tells marks as they stand: {told!r:.200}')
+
+
 def check_wrapper(tried, case):
-    """The wrapper itself, as a process."""
-    path = tried.path(case.text)
-    ran = subprocess.run([f'{TOP}/polymake', path, *ASKED], capture_output=True)
+    """The wrapper itself, as a process, ends, writes and tells the same."""
+    ran = subprocess.run([f'{TOP}/polymake', tried.path(case.text), *ASKED], capture_output=True)
     got = (ran.returncode, ran.stdout.decode(), ran.stderr.decode())
-    tried.wants(case, 'what the wrapper does', got, asked_by_book(tried, case))
-
-
-def asked_by_book(tried, case):
-    path, out, told = tried.path(case.text), io.StringIO(), io.StringIO()
-    with contextlib.redirect_stdout(out), contextlib.redirect_stderr(told):
-        status = ask.main(['--program', tried.program, '--book', f'{TOP}/wide.rules', '--', path, *ASKED])
-    return status, out.getvalue(), told.getvalue()
+    tried.wants(case, 'what the wrapper does', got, asked(tried, case.text, ASKED, '--book', f'{TOP}/wide.rules'))
 
 
 # A program whose reply is the same to each line but two, which are refused.
@@ -292,8 +295,10 @@ def main(words):
             check_bridges(tried, case, replies)
             if number % 40 == 1 and program == f'{TOP}/crates/pm_shell/out/pm_shell':
                 check_wrapper(tried, case)
-        for name in NAMES:
+        for number, name in enumerate(NAMES):
             check_others(tried, name)
+            if number % 6 == 2:
+                check_evidence(tried, name)
     if tried.faults:
         print(f'hostile_names: {tried.faults} faults')
     return 1 if tried.faults else 0

@@ -21,7 +21,7 @@ from session import Ended, Session
 PROPERTY = re.compile(r"(?:([A-Za-z][A-Za-z0-9_]{0,31})\.)?([A-Z][A-Z0-9_]*)", re.ASCII)
 OBJECT = "p"
 
-# The plain descriptions, each by both halves; what describes a fan; and what is no value of an object that is described.
+# The plain descriptions, each by both halves; what describes a fan; and what is beside the object.
 PLAIN = (("POINTS", "INPUT_LINEALITY"), ("INEQUALITIES", "EQUATIONS"))
 PLAIN_OF_FANS = ("VERTICES", "LINEALITY_SPACE", "MAXIMAL_CONES")
 GIVEN = ("CONE_AMBIENT_DIM", "SITES", "SITE_HEIGHTS")
@@ -107,8 +107,8 @@ def believed(thing):
     for pair in PLAIN:
         if not plain and any(thing.has(it) for it in pair):
             plain = pair
-    known = by_name(thing.type_name)
-    return [k for k, it in known.items() if thing.has(it.polytope) and it.polytope not in (*plain, *GIVEN)]
+    known, left = by_name(thing.type_name), (*plain, *GIVEN)
+    return [k for k, it in known.items() if thing.has(it.polytope) and it.polytope not in left]
 
 
 def tell_believed(asked):

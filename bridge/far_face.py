@@ -92,7 +92,7 @@ def is_multiple(row, other):
 
 
 def is_of_dimension_1(thing):
-    """Whether a cone has the dimension 1, as is said or by its generators; None where nothing tells it."""
+    """Whether a cone has the dimension 1, as is said or by its generators; None: it is not told."""
     if thing.has("CONE_DIM"):
         return thing.values["CONE_DIM"] == 1
     pair = next((it for it in DESCRIPTIONS[::2] if thing.has(it[0])), None)

@@ -146,7 +146,7 @@ def leave_out_in_doubt(thing, found, notes):
 
 
 def keep_of_a_ray(thing, found, notes):
-    """Keeps one description alone of a cone of dimension 1; where none tells it, N_FACETS may be wrong."""
+    """Keeps one description alone of a cone of dimension 1; else N_FACETS may be wrong alone."""
     names = {it.polytope: it.name(thing.type_name) for it in PROPERTIES}
     is_so = far_face.is_of_dimension_1(judged(found, by_name(thing.type_name), thing.type_name))
     if is_so and far_face.description_of(thing) is not None:
@@ -296,7 +296,8 @@ def check_halves(thing):
 
 def leave_out_foreign(thing, notes):
     """Leaves out what polymake's files do not hold in this form, or in another sense."""
-    if thing.values.get("SIMPLICIAL") is not True and thing.values.pop("H_VECTOR", None) is not None:
+    if thing.has("H_VECTOR") and thing.values.get("SIMPLICIAL") is not True:
+        del thing.values["H_VECTOR"]
         notes.tell(1, f"H_VECTOR: {H_VECTOR}, and this is not shown: left out")
     for item in PROPERTIES:
         if not item.is_of_polymake and thing.values.pop(item.polytope, None) is not None:
@@ -313,7 +314,8 @@ def why_none(thing, program, name):
         return "polymake has none"
     if name.endswith("_FACE") and not thing.has("VERTICES"):
         return "it counts VERTICES, which are not shown"
-    if name.endswith("_FACE") and (thing.rows("LINEALITY_SPACE") or not far_face.are_finite(thing.rows("VERTICES"))):
+    is_bounded = far_face.are_finite(thing.rows("VERTICES")) and not thing.rows("LINEALITY_SPACE")
+    if name.endswith("_FACE") and not is_bounded:
         return "of an unbounded polyhedron, polymake counts other rays"
     if program.values[name] == {"MAXIMAL_VALUE": "-inf", "MINIMAL_VALUE": "inf"}.get(name):
         return "there is no point, and then polymake has none"
