@@ -22,7 +22,7 @@ sys.path[:0] = [f'{TOP}/bridge', f'{TOP}/bench']
 
 import ask
 import bridges
-from session import Session
+from session import Ended, Session
 
 POINTS = '[["1","0","0"],["1","2","0"],["1","0","2"],["1","1","1"]]'
 TYPE = '"_type":"polytope::Polytope<Rational>"'
@@ -264,11 +264,13 @@ def check_wrapper(tried, case):
     tried.wants(case, 'what the wrapper does', got, asked(tried, case.text, ASKED, '--book', f'{TOP}/wide.rules'))
 
 
-# A program whose reply is the same to each line but two, which are refused.
+# A program whose reply is the same to each line but two, which are refused; it may end after so many lines.
 STAND_IN = """
 import sys
 refused = {"?": "no 1 BadCommand", "new a b": "no 4 UnknownType"}
-for line in sys.stdin:
+for count, line in enumerate(sys.stdin):
+    if str(count) in sys.argv[2:]:
+        sys.exit(5)
     print(refused.get(line.rstrip("\\n"), sys.argv[1]), flush=True)
 """
 
@@ -284,11 +286,24 @@ def check_session(tried):
             tried.wants(case, 'the second reply', session.ask('give p VERTICES'), wanted)
 
 
+def check_ended(tried):
+    """Where the program ends before a reply is whole, what it wrote of it is known, without the end in part."""
+    case, wanted = Case('a reply in part', '', '', ''), ['ok', 'no 1 BadCommand', 'undef']
+    for count in (1, 2, 40):
+        session = Session(sys.executable, ['-c', STAND_IN, '\n'.join(wanted), str(count)], tried.folder)
+        try:
+            tried.wants(case, 'the reply', session.ask('load p f.json'), None)
+        except Ended as ended:
+            tried.wants(case, 'what was written', (ended.status, ended.lines), (5, wanted))
+        session.close()
+
+
 def main(words):
     program = os.path.abspath(words[0])
     with tempfile.TemporaryDirectory() as folder:
         tried = Tried(program, folder)
         check_session(tried)
+        check_ended(tried)
         for number, case in enumerate(cases()):
             replies = check_program(tried, case)
             check_asked(tried, case)
