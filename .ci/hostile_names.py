@@ -300,6 +300,9 @@ def check_ended(tried):
 
 def main(words):
     program = os.path.abspath(words[0])
+    if not os.path.isfile(program):
+        print(f'hostile_names: there is no program {program}')
+        return 1
     with tempfile.TemporaryDirectory() as folder:
         tried = Tried(program, folder)
         check_session(tried)
