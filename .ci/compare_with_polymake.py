@@ -1,7 +1,7 @@
 #!/usr/bin/env python3
 """Compares each property that a file of polymake may bring with this program's, over files that polymake makes and saves.
 
-Usage: compare_with_polymake.py [--program PATH] [--keep FOLDER]. It wants polymake on the path, and prints a line for each
+Usage: compare_with_polymake.py [--program PATH] [--folder PATH]. It wants polymake on the path, and prints a line for each
 property and type: in how many files it is, in how many it is what this program finds of the description that the file was
 made by, and the others. It fails where something that the bridge takes is not what this program finds.
 """
@@ -194,8 +194,8 @@ def save_all(folder):
     missing = [path for path, *_ in files_of(folder) if not os.path.isfile(path)]
     if missing:
         sys.exit(f'polymake did not save {", ".join(missing)}: {ran.stderr[-2000:]}')
-    told = subprocess.run(['polymake', '--version'], env=kept, capture_output=True, text=True).stdout
-    return told.strip().split('\n')[0]
+    told = subprocess.run(['polymake', '--version'], env=kept, capture_output=True, text=True)
+    return (told.stdout + told.stderr).strip().split('\n')[0]
 
 
 def read_text(path):
