@@ -1,5 +1,8 @@
-mod Programs
+mod HeldPrograms
 mod Filing
 mod Whole
 mod LoadedAgain
 mod Reading
+pub mod Objectives
+pub mod ProgramValues
+pub mod Endless

@@ -3,3 +3,7 @@ pub mod Filing
 pub mod Whole
 pub mod LoadedAgain
 pub mod Reading
+pub mod ProgramExamples
+pub mod JsonExamples
+pub mod EndlessExamples
+pub mod FormExamples

@@ -23,3 +23,8 @@ pub mod PrismExamples
 mod PlacingExamples
 pub mod ConeExamples
 mod SiteExamples
+pub mod OneTarget
+pub mod SoundRuns
+pub mod Conditions
+pub mod MayAnswers
+pub mod Objects

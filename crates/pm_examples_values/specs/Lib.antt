@@ -12,3 +12,5 @@ pub mod PrismExamples
 pub mod PlacingExamples
 pub mod ConeExamples
 pub mod SiteExamples
+pub mod RunExamples
+pub mod ObjectExamples

@@ -1,5 +1,0 @@
-use Rattle.pm_examples_objects.proofs.Reading.{keys}
-use Rattle.pm_examples_objects.proofs.example_keys_read.Goals as goal
-
-pub returns : goal.returns
-returns c = keys

@@ -1,5 +1,0 @@
-use Rattle.pm_examples_objects.proofs.Filing.{files_are_loaded}
-use Rattle.pm_examples_objects.proofs.example_loaded.Goals as goal
-
-pub returns : goal.returns
-returns c = files_are_loaded

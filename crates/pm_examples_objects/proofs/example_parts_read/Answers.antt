@@ -1,5 +1,0 @@
-use Rattle.pm_examples_objects.proofs.Reading.{parts}
-use Rattle.pm_examples_objects.proofs.example_parts_read.Goals as goal
-
-pub returns : goal.returns
-returns c = parts

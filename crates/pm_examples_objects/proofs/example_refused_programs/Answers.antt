@@ -1,5 +1,0 @@
-use Rattle.pm_examples_objects.proofs.Programs.{programs_are_refused}
-use Rattle.pm_examples_objects.proofs.example_refused_programs.Goals as goal
-
-pub returns : goal.returns
-returns c = programs_are_refused

@@ -1,5 +1,0 @@
-use Rattle.pm_examples_objects.proofs.Filing.{objects_are_saved}
-use Rattle.pm_examples_objects.proofs.example_saved.Goals as goal
-
-pub returns : goal.returns
-returns c = objects_are_saved

@@ -1,5 +1,0 @@
-use Rattle.pm_examples_objects.proofs.Reading.{types}
-use Rattle.pm_examples_objects.proofs.example_types_read.Goals as goal
-
-pub returns : goal.returns
-returns c = types

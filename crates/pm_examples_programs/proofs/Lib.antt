@@ -1,3 +1,0 @@
-pub mod Objectives
-pub mod Programs
-pub mod Endless

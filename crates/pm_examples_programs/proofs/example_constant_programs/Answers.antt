@@ -1,6 +1,0 @@
--- The example is a lemma of Programs.
-use Rattle.pm_examples_programs.proofs.Programs.{constant_programs_are_read}
-use Rattle.pm_examples_programs.proofs.example_constant_programs.Goals as goal
-
-pub returns : goal.returns
-returns c = constant_programs_are_read

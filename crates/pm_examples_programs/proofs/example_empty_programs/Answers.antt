@@ -1,6 +1,0 @@
--- The example is a lemma of Programs.
-use Rattle.pm_examples_programs.proofs.Programs.{empty_programs_are_read}
-use Rattle.pm_examples_programs.proofs.example_empty_programs.Goals as goal
-
-pub returns : goal.returns
-returns c = empty_programs_are_read

@@ -1,6 +1,0 @@
--- The example is a lemma of Programs.
-use Rattle.pm_examples_programs.proofs.Programs.{forms_are_read}
-use Rattle.pm_examples_programs.proofs.example_forms.Goals as goal
-
-pub returns : goal.returns
-returns c = forms_are_read

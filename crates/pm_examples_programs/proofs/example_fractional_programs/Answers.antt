@@ -1,6 +1,0 @@
--- The example is a lemma of Programs.
-use Rattle.pm_examples_programs.proofs.Programs.{fractional_programs_are_read}
-use Rattle.pm_examples_programs.proofs.example_fractional_programs.Goals as goal
-
-pub returns : goal.returns
-returns c = fractional_programs_are_read

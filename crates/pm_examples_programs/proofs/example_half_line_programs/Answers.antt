@@ -1,6 +1,0 @@
--- The example is a lemma of Programs.
-use Rattle.pm_examples_programs.proofs.Programs.{half_line_programs_are_read}
-use Rattle.pm_examples_programs.proofs.example_half_line_programs.Goals as goal
-
-pub returns : goal.returns
-returns c = half_line_programs_are_read

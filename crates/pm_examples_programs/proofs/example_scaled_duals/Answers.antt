@@ -1,5 +1,0 @@
-use Rattle.pm_examples_programs.proofs.Endless.{scaled_duals_are_read}
-use Rattle.pm_examples_programs.proofs.example_scaled_duals.Goals as goal
-
-pub returns : goal.returns
-returns c = scaled_duals_are_read

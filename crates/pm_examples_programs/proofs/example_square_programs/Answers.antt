@@ -1,6 +1,0 @@
--- The example is a lemma of Programs.
-use Rattle.pm_examples_programs.proofs.Programs.{square_programs_are_read}
-use Rattle.pm_examples_programs.proofs.example_square_programs.Goals as goal
-
-pub returns : goal.returns
-returns c = square_programs_are_read

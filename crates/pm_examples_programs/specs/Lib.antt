@@ -1,4 +1,0 @@
-pub mod Examples
-pub mod JsonExamples
-pub mod EndlessExamples
-pub mod FormExamples

@@ -1,5 +1,0 @@
-use Rattle.pm_examples_runs.proofs.Conditions.{conditions_are_met}
-use Rattle.pm_examples_runs.proofs.example_conditions.Goals as goal
-
-pub returns : goal.returns
-returns c = conditions_are_met

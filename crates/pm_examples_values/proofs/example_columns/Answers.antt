@@ -1,5 +1,0 @@
-use Rattle.pm_examples_values.proofs.ThingExamples.{columns_are_read}
-use Rattle.pm_examples_values.proofs.example_columns.Goals as goal
-
-pub returns : goal.returns
-returns c = columns_are_read

@@ -1,5 +1,0 @@
-use Rattle.pm_examples_values.proofs.FanExamples.{cone_dims_are_read}
-use Rattle.pm_examples_values.proofs.example_cone_dims.Goals as goal
-
-pub returns : goal.returns
-returns c = cone_dims_are_read

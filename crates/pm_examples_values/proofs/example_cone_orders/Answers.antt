@@ -1,5 +1,0 @@
-use Rattle.pm_examples_values.proofs.ThingExamples.{cone_orders_are_read}
-use Rattle.pm_examples_values.proofs.example_cone_orders.Goals as goal
-
-pub returns : goal.returns
-returns c = cone_orders_are_read

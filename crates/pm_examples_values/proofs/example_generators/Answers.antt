@@ -1,5 +1,0 @@
-use Rattle.pm_examples_values.proofs.RowExamples.{generators_are_read}
-use Rattle.pm_examples_values.proofs.example_generators.Goals as goal
-
-pub returns : goal.returns
-returns c = generators_are_read

@@ -1,5 +1,0 @@
-use Rattle.pm_examples_values.proofs.RayExamples.{line_is_unbounded}
-use Rattle.pm_examples_values.proofs.example_line_unbounded.Goals as goal
-
-pub returns : goal.returns
-returns c = line_is_unbounded

@@ -1,5 +1,0 @@
-use Rattle.pm_examples_values.proofs.FanExamples.{maximal_cones_are_read}
-use Rattle.pm_examples_values.proofs.example_maximal_cones.Goals as goal
-
-pub returns : goal.returns
-returns c = maximal_cones_are_read

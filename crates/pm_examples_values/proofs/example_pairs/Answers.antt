@@ -1,5 +1,0 @@
-use Rattle.pm_examples_values.proofs.RowExamples.{pairs_are_read}
-use Rattle.pm_examples_values.proofs.example_pairs.Goals as goal
-
-pub returns : goal.returns
-returns c = pairs_are_read

@@ -1,5 +1,0 @@
-use Rattle.pm_examples_values.proofs.RayExamples.{segments_are_read}
-use Rattle.pm_examples_values.proofs.example_segments.Goals as goal
-
-pub returns : goal.returns
-returns c = segments_are_read

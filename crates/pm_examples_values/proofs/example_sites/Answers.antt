@@ -1,5 +1,0 @@
-use Rattle.pm_examples_values.proofs.SiteExamples.{sites_are_right}
-use Rattle.pm_examples_values.proofs.example_sites.Goals as goal
-
-pub returns : goal.returns
-returns c = sites_are_right

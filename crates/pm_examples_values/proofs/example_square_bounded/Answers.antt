@@ -1,5 +1,0 @@
-use Rattle.pm_examples_values.proofs.RayExamples.{square_is_bounded}
-use Rattle.pm_examples_values.proofs.example_square_bounded.Goals as goal
-
-pub returns : goal.returns
-returns c = square_is_bounded

@@ -1,5 +1,0 @@
-use Rattle.pm_examples_values.proofs.ThingExamples.{things_are_read}
-use Rattle.pm_examples_values.proofs.example_things.Goals as goal
-
-pub returns : goal.returns
-returns c = things_are_read

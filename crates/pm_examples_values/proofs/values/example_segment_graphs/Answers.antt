@@ -1,0 +1,6 @@
+-- The example is a lemma of GraphExamples.
+use Rattle.pm_examples_values.proofs.GraphExamples.{segment_graphs_are_read}
+use Rattle.pm_examples_values.proofs.values.example_segment_graphs.Goals as goal
+
+pub returns : goal.returns
+returns c = segment_graphs_are_read

@@ -1,5 +1,0 @@
-use Rattle.pm_laws_build.proofs.ShapeLaws.{cross_described}
-use Rattle.pm_laws_build.proofs.law_cross_is_described.Goals as goal
-
-pub returns : goal.returns
-returns c = cross_described

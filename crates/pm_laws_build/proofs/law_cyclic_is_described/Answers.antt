@@ -1,5 +1,0 @@
-use Rattle.pm_laws_build.proofs.ShapeLaws.{cyclic_described}
-use Rattle.pm_laws_build.proofs.law_cyclic_is_described.Goals as goal
-
-pub returns : goal.returns
-returns c = cyclic_described

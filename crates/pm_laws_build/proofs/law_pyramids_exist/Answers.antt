@@ -1,5 +1,0 @@
-use Rattle.pm_laws_build.proofs.ExistingOthers.{pyramids_exist}
-use Rattle.pm_laws_build.proofs.law_pyramids_exist.Goals as goal
-
-pub returns : goal.returns
-returns c = pyramids_exist

@@ -1,5 +1,0 @@
-use Rattle.pm_laws_build.proofs.ExistingShapes.{shapes_exist}
-use Rattle.pm_laws_build.proofs.law_shapes_exist.Goals as goal
-
-pub returns : goal.returns
-returns c = shapes_exist

@@ -1,5 +1,0 @@
-use Rattle.pm_laws_build.proofs.SumDescribed.{sum_described}
-use Rattle.pm_laws_build.proofs.law_sum_is_described.Goals as goal
-
-pub returns : goal.returns
-returns c = sum_described

@@ -1,5 +1,0 @@
-use Rattle.pm_laws_fans.proofs.NormalRows.{normal_described}
-use Rattle.pm_laws_fans.proofs.law_normal_fan_is_described.Goals as goal
-
-pub returns : goal.returns
-returns c = normal_described

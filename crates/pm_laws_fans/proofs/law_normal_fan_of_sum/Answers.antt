@@ -1,5 +1,0 @@
-use Rattle.pm_laws_fans.proofs.SumFans.{normal_fan_of_sum}
-use Rattle.pm_laws_fans.proofs.law_normal_fan_of_sum.Goals as goal
-
-pub returns : goal.returns
-returns c = normal_fan_of_sum

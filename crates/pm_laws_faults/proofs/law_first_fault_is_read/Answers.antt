@@ -1,5 +1,0 @@
-use Rattle.pm_laws_faults.proofs.Values.{first_fault_is_read}
-use Rattle.pm_laws_faults.proofs.law_first_fault_is_read.Goals as goal
-
-pub returns : goal.returns
-returns c = first_fault_is_read

@@ -1,4 +1,0 @@
-pub mod MarksAgain
-pub mod HeldAgain
-pub mod SavedAgain
-pub mod Examples

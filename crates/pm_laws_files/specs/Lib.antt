@@ -1,2 +1,0 @@
-pub mod SavedAgain
-pub mod Examples

@@ -1,5 +1,0 @@
-use Rattle.pm_laws_orders.proofs.SquareExamples.{square_graphs_read}
-use Rattle.pm_laws_orders.proofs.example_square.Goals as goal
-
-pub returns : goal.returns
-returns c = square_graphs_read

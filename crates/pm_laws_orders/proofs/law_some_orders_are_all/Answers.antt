@@ -1,5 +1,0 @@
-use Rattle.pm_laws_orders.proofs.OrdersExist.{some_orders_are_all}
-use Rattle.pm_laws_orders.proofs.law_some_orders_are_all.Goals as goal
-
-pub returns : goal.returns
-returns c = some_orders_are_all

@@ -1,4 +1,0 @@
-pub mod Bounds
-pub mod Found
-pub mod OtherBars
-pub mod Reasons

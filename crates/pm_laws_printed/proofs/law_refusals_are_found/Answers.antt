@@ -1,5 +1,0 @@
-use Rattle.pm_laws_printed.proofs.Found.{refusals_are_found}
-use Rattle.pm_laws_printed.proofs.law_refusals_are_found.Goals as goal
-
-pub returns : goal.returns
-returns c = refusals_are_found

@@ -1,0 +1,12 @@
+pub mod BookFaults
+pub mod BookLaws
+pub mod BookExamples
+pub mod Places
+pub mod ValueFaults
+pub mod ValueLaws
+pub mod ValueExamples
+pub mod FileFaults
+pub mod FileExamples
+pub mod SavedAgain
+pub mod LabelExamples
+pub mod Explained

@@ -1,0 +1,42 @@
+-- What is built exists: of each shape there is a polytope, each polytope has a polar and a pyramid, and each two have
+-- a product (Ziegler, Lectures on Polytopes, sections 0, 1.5 and 2.3). So what new objects describe is never nothing.
+use Rattle.std.specs.Prelude.{ℕ, ◌+◌, ◌≡◌, ◌≤◌}
+use Rattle.pm_geom.specs.Things.{Orders}
+use Rattle.pm_object_type.specs.declared.object_type.ObjectType.TheVariants.{Polytope}
+use Rattle.pm_types.specs.Things.{AreOrders, IsThing, Thing}
+use Rattle.pm_laws_things.specs.Built.{IsCross, IsCube, IsCyclic, IsPolar, IsProduct, IsPyramid, IsSimplex}
+use Rattle.pm_limits.specs.Limits.{most_columns, most_dimensions}
+
+-- there is a thing of which P holds, and there are orders of its rays and facets
+pub record SomeThing (P : Thing → Type 0) : Type 0 where
+  pub thing : Thing
+  pub is_thing : IsThing thing
+  pub orders : Orders
+  pub are_orders : AreOrders thing orders
+  pub holds : P thing
+
+-- t is a polytope
+pub record IsSomePolytope (t : Thing) : Type 0 where
+  pub thing : IsThing t
+  pub of : t.of ≡ Polytope
+
+-- ---- the laws
+-- there are cubes, simplices, cross-polytopes and cyclic polytopes in up to 32 dimensions
+pub record ShapesExist : Type 0 where
+  pub cube : (d : ℕ) → d ≤ most_dimensions → SomeThing (IsCube d)
+  pub simplex : (d : ℕ) → d ≤ most_dimensions → SomeThing (IsSimplex d)
+  pub cross : (d : ℕ) → d ≤ most_dimensions → SomeThing (IsCross d)
+  pub cyclic : (d n : ℕ) → d ≤ most_dimensions → SomeThing (IsCyclic d n)
+
+-- each polytope has a polar
+abbrev pub PolarsExist : Type 0
+PolarsExist = (t : Thing) → IsSomePolytope t → SomeThing (IsPolar t)
+
+-- each two polytopes of at most 34 columns together have a product
+abbrev pub ProductsExist : Type 0
+ProductsExist = (t s : Thing) → IsSomePolytope t → IsSomePolytope s → t.cols + s.cols ≤ (most_columns + 1)
+    → SomeThing (IsProduct t s)
+
+-- each polytope of at most 32 columns has a pyramid
+abbrev pub PyramidsExist : Type 0
+PyramidsExist = (t : Thing) → IsSomePolytope t → t.cols ≤ most_dimensions → SomeThing (IsPyramid t)

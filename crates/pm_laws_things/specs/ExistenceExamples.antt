@@ -1,0 +1,22 @@
+-- Which built things there are, and which there are not: a thing has at most 33 columns.
+use Rattle.std.specs.Prelude.{ℕ, ◌+◌, ◌≤◌}
+use Rattle.pm_laws_things.specs.Built.{IsCross, IsCube, IsCyclic, IsProduct, IsPyramid, IsSimplex}
+use Rattle.pm_laws_things.specs.BuildingExamples.{even_segment}
+use Rattle.pm_laws_things.specs.Existence.{IsSomePolytope, SomeThing}
+use Rattle.pm_object_type.specs.declared.object_type.ObjectType.TheVariants.{Cone}
+use Rattle.pm_types.specs.Things.{Thing}
+use Rattle.pm_limits.specs.Limits.{most_columns, most_dimensions}
+
+pub record ExistenceIsRead : Type 0 where
+  -- in 32 dimensions, and in none more
+  pub largest : SomeThing (IsCube most_dimensions)
+  pub no_cube : (d : ℕ) → most_columns ≤ d → ¬ (SomeThing (IsCube d))
+  pub no_simplex : (d : ℕ) → most_columns ≤ d → ¬ (SomeThing (IsSimplex d))
+  pub no_cross : (d : ℕ) → most_columns ≤ d → ¬ (SomeThing (IsCross d))
+  pub no_cyclic : (d n : ℕ) → most_columns ≤ d → ¬ (SomeThing (IsCyclic d n))
+  -- the cyclic polytope of no points is empty
+  pub no_points : SomeThing (IsCyclic 2 0)
+  pub no_product : (t s : Thing) → 35 ≤ t.cols + s.cols → ¬ (SomeThing (IsProduct t s))
+  pub no_pyramid : (t : Thing) → most_columns ≤ t.cols → ¬ (SomeThing (IsPyramid t))
+  -- a cone is no polytope
+  pub not_cone : ¬ (IsSomePolytope (record even_segment { of = Cone }))

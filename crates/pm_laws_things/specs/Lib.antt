@@ -1,0 +1,9 @@
+pub mod Built
+pub mod BuildingLaws
+pub mod Existence
+pub mod BuildingExamples
+pub mod ExistenceExamples
+pub mod FanLaws
+pub mod FanExamples
+pub mod Orders
+pub mod OrderExamples

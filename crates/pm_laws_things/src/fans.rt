@@ -1,0 +1,36 @@
+// Which fans the fans of polytopes are: what their values are right for. It has no code. It knows nothing of rules,
+// clients and sessions.
+
+ghost use Rattle.pm_laws_things.specs.FanExamples.{FansAreRead, RefinementsOfFansAreRead};
+ghost use Rattle.pm_laws_things.specs.FanLaws.{FaceFanIsDescribed, NormalFanIsDescribed, NormalFanOfSum, RefinementIsDescribed};
+
+/// The values of a normal fan are right for the normal fan of each polytope for which the values read are right.
+pub fn law_normal_fan_is_described()
+    ensures { NormalFanIsDescribed }
+{}
+
+/// The values of a face fan are right for the face fan of each polytope for which the values read are right.
+pub fn law_face_fan_is_described()
+    ensures { FaceFanIsDescribed }
+{}
+
+/// The values of a common refinement are right for the common refinement of each two fans for which the values read
+/// are right.
+pub fn law_refinement_is_described()
+    ensures { RefinementIsDescribed }
+{}
+
+/// The normal fan of the sum of two bounded polytopes is the common refinement of their normal fans.
+pub fn law_normal_fan_of_sum()
+    ensures { NormalFanOfSum }
+{}
+
+/// The normal fan and the face fan of a square, and what the values of small fans describe.
+pub fn example_fans()
+    ensures { FansAreRead }
+{}
+
+/// The fan of the two rays of the line, refined by itself, and what is no refinement; which polytopes are bounded.
+pub fn example_refinements()
+    ensures { RefinementsOfFansAreRead }
+{}
