@@ -166,7 +166,7 @@ pub fn pyramid(alloc: Global, o: &Object) -> Result<FileObject, BuildFail>
 /// The Minkowski sum of two polytopes: as its points the sums of the points of each vertex of the first and each of
 /// the second, in order, then the far rows of the first, then those of the second; and the lines of both.
 /// These values are right for the sum of all points of each two polytopes for which the values read are right,
-/// bounded or not (`pm_laws_build`, `law_sum_is_described`).
+/// bounded or not (`pm_laws_things`, `law_sum_is_described`).
 /// `NotFit` names the first condition that fails: both objects are polytopes, FEASIBLE is true of both, they have as
 /// many columns, the sum has at most `MOST_ROWS` points and at most `MOST_ROWS` lines.
 /// `Wide` exactly where a number on the way to the sum of two points leaves the range, with the primitive rows of the

@@ -126,7 +126,7 @@ fn face_values(alloc: Global, o: &Object) -> Result<FileObject, AllocError>
 /// normals without their first coordinate, with their scale. Of a point it is the lineality alone.
 /// These values are right, in some order of the fan's rays and cones, for the normal fan of each polytope for which
 /// the values read are right: the fan with one cone for each vertex, of the objectives that are least there, and no
-/// other (`pm_laws_fans`, `law_normal_fan_is_described`).
+/// other (`pm_laws_things`, `law_normal_fan_is_described`).
 /// `NotFit` names the first condition that fails: the object is a polytope, BOUNDED and FEASIBLE are true, it has two
 /// columns at least, the sets of VERTICES_IN_FACETS are those of its facets and vertices and no normal is 0.
 pub fn normal_fan(alloc: Global, o: &Object) -> Result<FileObject, BuildFail>
@@ -145,7 +145,7 @@ pub fn normal_fan(alloc: Global, o: &Object) -> Result<FileObject, BuildFail>
 /// coordinate and with their scale, and its cones, one for each facet, are spanned by the vertices on the facet. Of a
 /// point it is the cone {0}.
 /// These values are right, in some order of the fan's rays and cones, for the face fan of each polytope for which the
-/// values read are right: the fan with one cone for each facet, the one over it, and no other (`pm_laws_fans`,
+/// values read are right: the fan with one cone for each facet, the one over it, and no other (`pm_laws_things`,
 /// `law_face_fan_is_described`).
 /// `NotFit` names the first condition that fails: the object is a polytope, BOUNDED and CENTERED are true, it has two
 /// columns at least, the sets of VERTICES_IN_FACETS are of its vertices and no vertex of several is 0.

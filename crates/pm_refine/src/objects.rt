@@ -109,7 +109,7 @@ fn refined_fan(alloc: Global, n: usize, r: &Refinement) -> Result<FileObject, Al
 /// the pivot columns of the common lineality, in lexicographic order.
 /// Each value has its form for a fan of as many columns.
 /// These values are right, in some order of the fan's rays and cones, for the common refinement of each two fans for
-/// which the values read are right, and for no other (`pm_laws_fans`, `law_refinement_is_described`).
+/// which the values read are right, and for no other (`pm_laws_things`, `law_refinement_is_described`).
 /// `NotFit` names the first condition that fails: both objects are fans, they have as many columns, the sets of
 /// MAXIMAL_CONES are of their rays; and, where each intersection is made, the new fan has at most `MOST_ROWS` rays
 /// and at most `MOST_ROWS` cones.

@@ -184,7 +184,7 @@ fn file_object(alloc: Global, book: &Book, object: &Object) -> Result<FileObject
 
 /// The bytes of the data file of an object. Where they are not too many, loading them gives what the object holds
 /// again, and its marks; and saving what was read gives the same bytes. So does saving the object that is loaded of
-/// them, where settling adds nothing to it and the book has all labels (`law_saved_again` of `pm_laws_files`).
+/// them, where settling adds nothing to it and the book has all labels (`law_saved_again` of `pm_laws_texts`).
 pub fn save_object(alloc: Global, book: &Book, object: &Object) -> Result<Vec<u8>, AllocError>
     ensures file { IfOk result (λ bytes. bytes.items ≡ file_bytes (saved_file book.now object.now.state)) }
     ensures again { IfOk result (λ bytes. length bytes.items ≤ most_file_bytes →
