@@ -8,3 +8,5 @@ pub mod Laws
 pub mod Examples
 pub mod RefusalExamples
 pub mod BuildingExamples
+pub mod Shown
+pub mod Run

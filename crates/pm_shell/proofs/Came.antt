@@ -10,7 +10,7 @@ use Rattle.pm_script.specs.Replies.{ReplySeen}
 use Rattle.pm_shell.proofs.Reading.{HasRead, goes_on, read_breaks, read_exceeds, read_over}
 use Rattle.pm_shell.proofs.Runs.{SoFar, so_far_fails, so_far_halts, so_far_whole}
 use Rattle.pm_shell.specs.Ends.{HasOutcome, InHand, IsRead, IsReadSoFar, fail_of}
-use Rattle.pm_shell.specs.Run.{Answers, text_of_reply}
+use Rattle.pm_machine.specs.Run.{Answers, text_of_reply}
 use Rattle.pm_shell.specs.declared.status.RunFail.{RunFail}
 use Rattle.pm_shell.specs.declared.status.RunFail.TheVariants as why
 use Rattle.pm_store.specs.Outside.{GainsPart}

@@ -18,7 +18,7 @@ use Rattle.pm_shell.proofs.Shown.{kept_by}
 use Rattle.pm_shell.specs.Chosen.{IsBook}
 use Rattle.pm_shell.specs.Demo.{demo_text}
 use Rattle.pm_shell.specs.Ends.{AnswersOne, DidNotRun, Ended, EndedBy, HasOutcome, InHand, IsBadBook, NextInHand, Ran, RanScript, RanWords, World, status_of}
-use Rattle.pm_shell.specs.Run.{Answers, Starts, command_at, text_of_reply}
+use Rattle.pm_machine.specs.Run.{Answers, Starts, command_at, text_of_reply}
 use Rattle.pm_shell.specs.declared.status.RunFail.{RunFail}
 use Rattle.pm_shell.specs.declared.status.RunFail.TheVariants as why
 use Rattle.pm_shell.specs.declared.status.Status.{Status}

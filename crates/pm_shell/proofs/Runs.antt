@@ -11,8 +11,8 @@ use Rattle.pm_command.specs.Lines.{Line}
 use Rattle.pm_script.specs.Replies.{ReplySeen}
 use Rattle.pm_shell.proofs.Shown.{kept_by, shows_right, stand_by}
 use Rattle.pm_shell.specs.Ends.{AnsweredAll, AnswersOne, BrokeOff, GainsWithin, HasOutcome, InHand, NextInHand, Stopped, bytes_in}
-use Rattle.pm_shell.specs.Run.{Answers, Run, any_refused, is_refused, replies_text, text_if, text_of_reply}
-use Rattle.pm_shell.specs.Shown.{Shows}
+use Rattle.pm_machine.specs.Run.{Answers, Run, any_refused, is_refused, replies_text, text_if, text_of_reply}
+use Rattle.pm_machine.specs.Shown.{Shows}
 use Rattle.pm_shell.specs.declared.status.RunFail.{RunFail}
 use Rattle.pm_shell.specs.declared.status.RunFail.TheVariants as why
 use Rattle.pm_store.proofs.OutsideLemmas.{Gains-then}

@@ -19,8 +19,8 @@ use Rattle.pm_command.specs.Grammar.{ref_text}
 use Rattle.pm_command.specs.Lines.{Line}
 use Rattle.pm_script.specs.Replies.{ReplySeen, Rounds, shows}
 use Rattle.pm_script.specs.declared.refusal.Refusal.{Refusal}
-use Rattle.pm_shell.specs.Run.{Answers, AnswersTo, command_at, refusal_of}
-use Rattle.pm_shell.specs.Shown.{IsShown, Shows}
+use Rattle.pm_machine.specs.Run.{Answers, AnswersTo, command_at, refusal_of}
+use Rattle.pm_machine.specs.Shown.{IsShown, Shows}
 use Rattle.pm_types.specs.Values.{PropertyValue}
 use Rattle.pm_props.specs.declared.property.PropId.{PropId}
 use Rattle.pm_props.specs.declared.set.PropSet.{PropSet}

@@ -13,7 +13,7 @@ use Rattle.pm_command.specs.Lines.{Line, lines_of}
 use Rattle.pm_script.specs.Replies.{ReplySeen}
 use Rattle.pm_shell.specs.Chosen.{IsBook, IsRefusedBook}
 use Rattle.pm_shell.specs.Demo.{demo_text}
-use Rattle.pm_shell.specs.Run.{Answers, Run, Starts, any_refused, command_at, is_refused, replies_text, text_if, text_of_reply}
+use Rattle.pm_machine.specs.Run.{Answers, Run, Starts, any_refused, command_at, is_refused, replies_text, text_if, text_of_reply}
 use Rattle.pm_shell.specs.declared.status.RunFail.{RunFail}
 use Rattle.pm_shell.specs.declared.status.RunFail.TheVariants as why
 use Rattle.pm_shell.specs.declared.status.Status.{Status}

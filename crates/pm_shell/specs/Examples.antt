@@ -14,7 +14,7 @@ use Rattle.pm_script.specs.declared.refusal.Refusal.{Refusal}
 use Rattle.pm_script.specs.declared.refusal.Refusal.TheVariants.{BadCommand, LineTooLong}
 use Rattle.pm_shell.specs.Chosen.{IsBook, IsRefusedBook, has_standard_name, kinds_of}
 use Rattle.pm_shell.specs.Ends.{IsRead}
-use Rattle.pm_shell.specs.Run.{AnswersTo, refusal_of}
+use Rattle.pm_machine.specs.Run.{AnswersTo, refusal_of}
 use Rattle.pm_shell.specs.declared.status.RunFail.TheVariants.{SinkFault, SourceFault, TooLong}
 
 abbrev pub ended_line : List ℕ → Line

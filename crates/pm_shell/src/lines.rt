@@ -8,7 +8,7 @@ ghost use Rattle.pm_command.specs.Commands.{spoken};
 ghost use Rattle.pm_command.specs.Lines.{Line};
 ghost use Rattle.pm_script.specs.Replies.{ReplySeen, is_refusal, nothing, refused, seen};
 ghost use Rattle.pm_shell.specs.Ends.{AnswersOne, HasOutcome, InHand, IsRead};
-ghost use Rattle.pm_shell.specs.Run.{Answers, command_at, refusal_of, text_of_reply};
+ghost use Rattle.pm_machine.specs.Run.{Answers, command_at, refusal_of, text_of_reply};
 ghost use Rattle.pm_store.specs.Outside.{GainsTold, GainsPart, Rose};
 ghost use Rattle.std.specs.Option.{option_map};
 ghost use Rattle.std.specs.Prelude.{IfErr, IfOk, IfSome, IsErrOf, List, OnErr, Some, map, ◌≡◌, ◌≤◌, ◌⊎◌};

@@ -11,7 +11,7 @@ use Rattle.pm_command.specs.Lines.{Line, is_too_long, text_of}
 use Rattle.pm_script.specs.Replies.{ReplySeen, is_refusal, nothing, refused, reply_text}
 use Rattle.pm_script.specs.declared.refusal.Refusal.{Refusal}
 use Rattle.pm_script.specs.declared.refusal.Refusal.TheVariants.{BadCommand, LineTooLong}
-use Rattle.pm_shell.specs.Shown.{Shows}
+use Rattle.pm_machine.specs.Shown.{Shows}
 use Rattle.pm_store.specs.Files.{FilesStay}
 
 -- the command that the line speaks, if it speaks one; a line that is too long speaks none
