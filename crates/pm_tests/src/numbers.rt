@@ -101,6 +101,7 @@ fn wide_rays_are_found(rt: HostRuntime) {
     assert!(rt; points.len() == 5);
     let narrow = extreme_rays(alloc, &points, 3);
     assert!(rt; matches!(&narrow, Err(DdFail::Wide(_))));
+    drop(narrow);
     let found = wide_extreme_rays(alloc, &points, 3).expect(&rt, "rays");
     let shown = format!(in alloc; "{:?}", found.rays).expect(&rt, "room for a text");
     assert_eq!(rt;
@@ -108,6 +109,7 @@ fn wide_rays_are_found(rt: HostRuntime) {
         "[Ints { entries: [822956562663196319360, 1139847369104380360576, -731620730845306501601] }, Ints { entries: [1153003546809608866412, 128131624456086421762, -857839930420495825121] }, Ints { entries: [8831466246196486351760, 1605865064063190644000, 2659542960109243618371] }, Ints { entries: [9873147768920737174660, -3197432764716880850790, -34661452058681518497] }]"
     );
     assert!(rt; found.lineality.is_empty());
+    drop(found);
 }
 
 // The same number is one key; the row that has the first difference comes first; a matrix that is copied and turned.

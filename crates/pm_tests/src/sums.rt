@@ -46,8 +46,9 @@ fn fan(rt: &impl Abort, alloc: Global, text: &str) -> Object
 }
 
 // Whether this is the text of the object.
-fn is_text(rt: &impl Abort, alloc: Global, o: &FileObject, text: &str) -> bool {
-    let bytes = object_bytes(alloc, o).expect(rt, "the text");
+fn is_text(rt: &impl Abort, alloc: Global, o: FileObject, text: &str) -> bool {
+    let bytes = object_bytes(alloc, &o).expect(rt, "the text");
+    drop(o);
     bytes.as_slice() == text.as_bytes()
 }
 
@@ -93,7 +94,7 @@ fn points_are_added(rt: HostRuntime) {
     let text =
         r#"{"INPUT_LINEALITY":[],"POINTS":[["1","0","0"],["1","1","1"],["1","0","1"],["1","1","2"],["1","1","0"],["1","2","1"],["1","1","1"],["1","2","2"]],"_computed":[],"_excluded":[],"_profile":2,"_type":"polytope::Polytope<Rational>"}
 "#;
-    assert!(rt; is_text(&rt, alloc, &sum, text));
+    assert!(rt; is_text(&rt, alloc, sum, text));
 }
 
 // A half-line from 1/2 and the point 1/4, beside a plane of lines; two points whose denominators have no common
@@ -109,7 +110,7 @@ fn far_rows_stay_and_wide_sums_are_refused(rt: HostRuntime) {
     let text =
         r#"{"INPUT_LINEALITY":[["0","1"]],"POINTS":[["1","3/4"],["0","1"]],"_computed":[],"_excluded":[],"_profile":2,"_type":"polytope::Polytope<Rational>"}
 "#;
-    assert!(rt; is_text(&rt, alloc, &sum, text));
+    assert!(rt; is_text(&rt, alloc, sum, text));
     let thin =
         r#"{"FEASIBLE":true,"LINEALITY_SPACE":[],"VERTICES":[["1","1/18446744073709551616"]],"_type":"polytope::Polytope<Rational>"}"#;
     let thinner =
@@ -134,7 +135,7 @@ fn cones_are_cut(rt: HostRuntime) {
     let text =
         r#"{"FAN_AMBIENT_DIM":2,"LINEALITY_SPACE":[],"MAXIMAL_CONES":[[3,5],[1,3],[0,1],[0,2],[4,5],[2,4],{"cols":6}],"RAYS":[["-1","0"],["-1","1"],["0","-1"],["0","1"],["1","-1"],["1","0"]],"_computed":[],"_excluded":[],"_profile":2,"_type":"fan::PolyhedralFan<Rational>"}
 "#;
-    assert!(rt; is_text(&rt, alloc, &refined, text));
+    assert!(rt; is_text(&rt, alloc, refined, text));
     let line =
         r#"{"FAN_AMBIENT_DIM":1,"LINEALITY_SPACE":[],"MAXIMAL_CONES":[[0]],"RAYS":[["1"]],"_type":"fan::PolyhedralFan<Rational>"}"#;
     let refused = refined_of(&rt, alloc, quadrants, line).err();
