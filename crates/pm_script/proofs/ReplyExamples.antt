@@ -1,9 +1,16 @@
 -- Texts of small replies, written out.
-use Rattle.std.proofs.Common.{refl}
+use Rattle.std.proofs.Common.{◌≡◌, [], ◌∷◌, ap, arith, codes, false, refl}
+use Rattle.std.specs.Prelude.{slice_index}
+use Rattle.pm_script.specs.Replies.{loaded, reply_text}
 use Rattle.std.specs.Fmt.{digits}
 use Rattle.serde_json.proofs.OnLiterals.{serde_json_on_literals}
 use Rattle.pm_props.specs.Sets.{only, union}
 use Rattle.pm_script.specs.Examples.{RepliesAreRead}
+
+-- the byte behind `ok ignored ` is a quote, and not the letter
+no_line : reply_text false (loaded (codes "X\nno 1 BadCommand" ∷ [])) ≡ codes "ok ignored X\nno 1 BadCommand\n" → ⊥
+unfolding serde_json_on_literals
+no_line e = let s = ap (λ t. slice_index t 11) e in omega (arith, s)
 
 pub replies_are_read : RepliesAreRead
 unfolding digits union only serde_json_on_literals
@@ -38,6 +45,11 @@ replies_are_read = record {
   computed = refl;
   all_read = refl;
   read_over = refl;
+  forged = refl;
+  not_as_it_stands = λ e. absurd (no_line e);
+  one_name = refl;
+  two_names_read_over = refl;
+  no_name = refl;
   marked = refl;
   nothing_held = refl;
   held = refl;

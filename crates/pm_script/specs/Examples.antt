@@ -1,5 +1,5 @@
 -- Texts of replies read on small ones: what they are and what they are not.
-use Rattle.std.specs.Prelude.{ℕ, pos, ◌≡◌, true, false, Option, Some, None, [], ◌∷◌, codes}
+use Rattle.std.specs.Prelude.{ℕ, pos, ◌≡◌, ◌≢◌, true, false, Option, Some, None, [], ◌∷◌, codes}
 use Rattle.pm_geom.specs.declared.evidence.Evidence.TheVariants.{E4}
 use Rattle.pm_object.specs.State.{RoundSeen}
 use Rattle.pm_object.specs.declared.held.Excluded.{Excluded}
@@ -101,6 +101,15 @@ pub record RepliesAreRead : Type 0 where
   pub computed : reply_text true (tells_origin origin.Computed) ≡ codes "computed\n"
   pub all_read : reply_text false (loaded []) ≡ codes "ok\n"
   pub read_over : reply_text false (loaded (codes "A" ∷ codes "LP.B" ∷ [])) ≡ codes "ok ignored A LP.B\n"
+  -- a name that is no word is told as its JSON text, so that it makes no line of its own, and no second name
+  pub forged : reply_text false (loaded (codes "X\nsq VERTICES [[\"1\",\"7\"]]" ∷ []))
+      ≡ codes "ok ignored \"X\\nsq VERTICES [[\\\"1\\\",\\\"7\\\"]]\"\n"
+  pub not_as_it_stands : reply_text false (loaded (codes "X\nno 1 BadCommand" ∷ []))
+      ≢ codes "ok ignored X\nno 1 BadCommand\n"
+  pub one_name : reply_text false (loaded (codes "A B" ∷ [])) ≡ codes "ok ignored \"A B\"\n"
+  pub two_names_read_over : reply_text false (loaded (codes "A" ∷ codes "B" ∷ []))
+      ≡ codes "ok ignored A B\n"
+  pub no_name : reply_text false (loaded ([] ∷ [])) ≡ codes "ok ignored \"\"\n"
   pub marked : exclusion_text (why.Stored 1) ≡ codes "failed E1"
   -- what is held, one line a property, and each program after the object
   pub nothing_held : reply_text false (lists_held Cone [] []) ≡ codes "object Cone 0\n"

@@ -17,6 +17,7 @@ use Rattle.pm_props.specs.declared.kind.RuleId.{RuleId}
 use Rattle.pm_props.specs.declared.set.PropSet.{PropSet}
 use Rattle.pm_weights.specs.declared.Cost.{Cost}
 use Rattle.pm_weights.specs.declared.Weight.{Weight}
+use Rattle.pm_rules.specs.Words.{is_word}
 use Rattle.pm_rules.specs.declared.table.Table.{Table}
 use Rattle.pm_rules.specs.declared.table.TableRow.{TableRow}
 use Rattle.pm_script.specs.declared.names.Bar.{Bar}
@@ -42,6 +43,8 @@ use Rattle.pm_script.specs.declared.refusal.ValueWhy.TheVariants.{Json, Shape, N
 use Rattle.pm_script.specs.declared.reply.Reply.{Reply}
 use Rattle.pm_script.specs.declared.shown.ProgramHeld.{ProgramHeld}
 use Rattle.pm_script.specs.declared.reply.Reply.TheVariants as reply
+use Rattle.serde_json.specs.Data.{string}
+use Rattle.serde_json.specs.Written.{compact_text}
 
 -- the label and the weight of each rule, by its number, and the name of each program of an object, by its place
 pub record NamesSeen : Type 0 where
@@ -290,9 +293,13 @@ origin_text origin.Given = codes "given"
 origin_text origin.Stored = codes "stored"
 origin_text origin.Computed = codes "computed"
 
--- a space, and a name that was read over
+-- a name that was read over: as it stands where it is a word, and else as its JSON text, which has no LF
+abbrev pub told_name : List ℕ → List ℕ
+told_name name = if is_word name then name else compact_text (string name)
+
+-- a space, and such a name
 abbrev pub spaced_name : List ℕ → List ℕ
-spaced_name name = codes " " ++ name
+spaced_name name = codes " " ++ told_name name
 
 -- ` ignored` and the names that were read over, where there are such
 abbrev pub ignored_text : List (List ℕ) → List ℕ

@@ -13,9 +13,10 @@ use crate::refusal::{Refusal, push_refusal};
 use crate::shown::{ProgramHeld, evidence_lines, name_shown, object_lines, origin_line};
 use pm_files::value_text;
 use pm_object::{Excluded, Origin, Round};
-use pm_rules::Table;
+use pm_rules::{Table, is_word};
 use pm_types::{ObjectType, PropId, RuleId, Value};
 use pm_weights::Cost;
+use serde_json::Value as Json;
 use std::alloc::{AllocError, Global};
 use std::fmt::Write;
 
@@ -275,20 +276,31 @@ fn push_remarks(
     }
 }
 
-/// Writes a space and each name.
-fn push_names(text: &mut String, names: &[String]) -> Result<(), AllocError>
+/// Writes a space and a name: as it stands where it is a word, and else as its JSON text.
+fn push_name(alloc: Global, text: &mut String, name: &str) -> Result<(), AllocError>
+    ensures { OnOk result (string_bytes text.new ≡ string_bytes text.old ++ spaced_name name.now) }
+{
+    text.push_str(" ")?;
+    if is_word(name.as_bytes()) {
+        return text.push_str(name);
+    }
+    let json = Json::try_from_str(alloc, name)?;
+    text.push_str(json.to_string(alloc)?.as_str())
+}
+
+/// Writes each name behind a space.
+fn push_names(alloc: Global, text: &mut String, names: &[String]) -> Result<(), AllocError>
     ensures { OnOk result (string_bytes text.new ≡ string_bytes text.old
         ++ flat_map spaced_name (map string_bytes names.now)) }
 {
     for name in names {
-        text.push_str(" ")?;
-        text.push_str(name.as_str())?;
+        push_name(alloc, text, name.as_str())?;
     }
     Ok(())
 }
 
 /// Writes which names were read over, where there are such.
-fn push_ignored(text: &mut String, names: &[String]) -> Result<(), AllocError>
+fn push_ignored(alloc: Global, text: &mut String, names: &[String]) -> Result<(), AllocError>
     ensures { OnOk result (string_bytes text.new ≡ string_bytes text.old
         ++ ignored_text (map string_bytes names.now)) }
 {
@@ -296,7 +308,7 @@ fn push_ignored(text: &mut String, names: &[String]) -> Result<(), AllocError>
         return Ok(());
     }
     text.push_str(" ignored")?;
-    push_names(text, names)
+    push_names(alloc, text, names)
 }
 
 /// The line of a file that was loaded.
@@ -304,7 +316,7 @@ fn loaded_line(alloc: Global, names: &[String]) -> Result<String, AllocError>
     ensures { IfOk result (λ t. string_bytes t ≡ reply_text false (loaded (map string_bytes names.now))) }
 {
     let mut text = String::from_str(alloc, "ok")?;
-    push_ignored(&mut text, names)?;
+    push_ignored(alloc, &mut text, names)?;
     text.push_str("\n")?;
     Ok(text)
 }
