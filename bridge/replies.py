@@ -13,7 +13,7 @@ VALUE = re.compile(
 )
 
 # Words that begin other replies, after which a label or a name stands that may look like a property.
-OTHERS = ("rule", "excluded", "barred", "evidence", "program")
+OTHERS = ("rule", "excluded", "barred", "evidence")
 
 # The names that `load` read over: words, or JSON texts of names that are none.
 NAME_READ_OVER = re.compile(r' ([A-Za-z_][A-Za-z0-9_.]*|"(?:[^"\\\x00-\x1f]|\\.)*")', re.ASCII)

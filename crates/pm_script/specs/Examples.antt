@@ -118,7 +118,7 @@ pub record RepliesAreRead : Type 0 where
       ≡ codes "object Cone 2\nRAYS given\nPOINTED computed\n"
   pub program_held
       : reply_text false (lists_held Polytope [] ((codes "a", (LinearObjective, origin.Stored) ∷ []) ∷ []))
-      ≡ codes "object Polytope 0\nprogram a 1\nLINEAR_OBJECTIVE stored\n"
+      ≡ codes "object Polytope 0\nprogram: a 1\nLINEAR_OBJECTIVE stored\n"
   -- evidence is shown whole, with its place; of a mark from a file the number alone
   pub no_evidence : reply_text false (tells_evidence [] two_names) ≡ codes "ok 0\n"
   pub evidence : reply_text false (tells_evidence (failure ∷ []) two_names)

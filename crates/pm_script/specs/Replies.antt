@@ -324,9 +324,9 @@ held_line of x = name_shown of x.0 ++ codes " " ++ origin_text x.1 ++ codes "\n"
 abbrev pub held_lines : ObjectType → List (PropId × Origin) → List ℕ
 held_lines of held = codes " " ++ decimal (length held) ++ codes "\n" ++ flat_map (held_line of) held
 
--- `program NAME N`, and its lines
+-- `program: NAME N`, and its lines; no value line begins so, since no object's name has a colon
 abbrev pub program_lines : ObjectType → List ℕ × List (PropId × Origin) → List ℕ
-program_lines of p = codes "program " ++ p.0 ++ held_lines of p.1
+program_lines of p = codes "program: " ++ p.0 ++ held_lines of p.1
 
 -- evidence whole behind its number, or the number alone that came with a file
 abbrev pub evidence_shown : Why → List ℕ

@@ -95,7 +95,7 @@ fn push_program(text: &mut String, of: ObjectType, program: &ProgramHeld) -> Res
     ensures { OnOk result (string_bytes text.new
         ≡ string_bytes text.old ++ program_lines of (program_seen program.now)) }
 {
-    text.push_str("program ")?;
+    text.push_str("program: ")?;
     text.push_str(program.name.as_str())?;
     push_held(text, of, &program.held)
 }
