@@ -10,7 +10,7 @@ use pm_refine::RefinementFail;
 use pm_script::NotMadeWhy;
 
 /// Why nothing is built.
-#[derive(Debug, Drop)]
+#[derive(Drop)]
 pub enum Unbuilt {
     /// This is the first condition that does not hold.
     NotFit(Condition),

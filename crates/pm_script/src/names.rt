@@ -10,7 +10,7 @@ use std::alloc::Global;
 
 /// The label and the weight of each rule of the book, by its number, and the names of an object's linear programs, by
 /// their places.
-#[derive(Debug, Drop)]
+#[derive(Drop)]
 pub struct Names {
     pub rules: Vec<(ClientName, Weight)>,
     pub subs: Vec<String>,

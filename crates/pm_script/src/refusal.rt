@@ -30,7 +30,7 @@ pub enum ValueWhy {
 }
 
 /// Why a file is refused.
-#[derive(Debug, Drop)]
+#[derive(Drop)]
 pub enum FileWhy {
     /// It has more than `MOST_FILE_BYTES` bytes.
     Limit,
@@ -49,7 +49,7 @@ pub enum FileWhy {
 }
 
 /// Why an object is not made of two others, and what shows it.
-#[derive(Debug, Drop)]
+#[derive(Drop)]
 pub enum NotMadeWhy {
     /// A number on the way to the sum of the points of these two rows leaves the range, first in this column.
     Combination {
@@ -66,7 +66,7 @@ pub enum NotMadeWhy {
 }
 
 /// Why a command is refused.
-#[derive(Debug, Drop)]
+#[derive(Drop)]
 pub enum Refusal {
     /// 1: the line is no command.
     BadCommand,

@@ -3,7 +3,7 @@
 ghost use Rattle.pm_files.specs.ValueJson.{value_text};
 ghost use Rattle.pm_object.specs.Views.{round_seen};
 ghost use Rattle.pm_weights.specs.Weights.{cost_text};
-ghost use Rattle.pm_script.specs.Replies.{done, ignored_text, is_refusal, loaded, name_shown, names_seen, no_rounds, nothing, planned, refused, remarks, remarks_text, reply_text, rounds_text, rule_text, seen, spaced_name, table_row_text};
+ghost use Rattle.pm_script.specs.Replies.{done, ignored_text, is_refusal, loaded, name_shown, names_seen, no_rounds, nothing, planned, refused, remarks, remarks_text, reply_text, rounds_text, rule_text, seen, spaced_name, table_row_text, tells};
 ghost use Rattle.pm_types.specs.Views.{view_of};
 ghost use Rattle.std.specs.Prelude.{Bool, IfOk, false, None, OnOk, [], codes, decimal, flat_map, if◌then◌else◌, length, map, string_bytes, ◌++◌, ◌||◌, ◌≡◌};
 
@@ -21,7 +21,7 @@ use std::alloc::{AllocError, Global};
 use std::fmt::Write;
 
 /// What is replied to a command.
-#[derive(Debug, Drop)]
+#[derive(Drop)]
 pub enum Reply {
     /// The command was carried out, after these rounds; there are none but for commands that build objects.
     Done {
@@ -321,6 +321,43 @@ fn loaded_line(alloc: Global, names: &[String]) -> Result<String, AllocError>
     Ok(text)
 }
 
+/// The lines of the rounds and the exclusions of an object.
+fn history_lines(
+    alloc: Global,
+    rounds: &[Round],
+    excluded: &[Excluded],
+    names: &Names,
+) -> Result<String, AllocError>
+    ensures { IfOk result (λ t. string_bytes t ≡ reply_text false (tells
+        (record { rounds = map round_seen rounds.now; names = names_seen names.now }) excluded.now)) }
+{
+    let mut text = String::new(alloc);
+    push_counted(&mut text, "rounds", rounds, names)?;
+    push_exclusions(&mut text, names, excluded)?;
+    Ok(text)
+}
+
+/// The lines of a refusal, with what is said beside it.
+fn refused_lines(
+    alloc: Global,
+    why: &Refusal,
+    told: bool,
+    rounds: &[Round],
+    barred: &[(RuleId, Bar)],
+    table: &Option<Table>,
+    names: &Names,
+) -> Result<String, AllocError>
+    ensures { (trace always : Bool) → told ≡ (trace || always) →
+        IfOk result (λ t. string_bytes t ≡ reply_text trace (refused why.now
+        (remarks always (map round_seen rounds.now) barred.now table.now (names_seen names.now)))) }
+{
+    let mut text = String::from_str(alloc, "no ")?;
+    push_refusal(&mut text, why)?;
+    text.push_str("\n")?;
+    push_remarks(&mut text, told, rounds, barred, table, names)?;
+    Ok(text)
+}
+
 /// The reply's lines as a text.
 fn reply_lines(alloc: Global, r: &Reply, trace: bool) -> Result<String, AllocError>
     ensures { IfOk result (λ t. string_bytes t ≡ reply_text trace (seen r.now)) }
@@ -368,12 +405,7 @@ fn reply_lines(alloc: Global, r: &Reply, trace: bool) -> Result<String, AllocErr
             rounds,
             excluded,
             names,
-        } => {
-            let mut text = String::new(alloc);
-            push_counted(&mut text, "rounds", rounds, names)?;
-            push_exclusions(&mut text, names, excluded)?;
-            Ok(text)
-        }
+        } => history_lines(alloc, rounds, excluded, names),
         Reply::Rules { count, text: book } => {
             let mut text = String::new(alloc);
             push_rules(&mut text, *count, book)?;
@@ -387,12 +419,8 @@ fn reply_lines(alloc: Global, r: &Reply, trace: bool) -> Result<String, AllocErr
             table,
             names,
         } => {
-            let mut text = String::from_str(alloc, "no ")?;
-            push_refusal(&mut text, why)?;
-            text.push_str("\n")?;
             let told = is_told(trace, *ensured);
-            push_remarks(&mut text, told, rounds, barred, table, names)?;
-            Ok(text)
+            refused_lines(alloc, why, told, rounds, barred, table, names)
         }
     }
 }

@@ -15,7 +15,7 @@ use std::alloc::{AllocError, Global};
 use std::fmt::Write;
 
 /// What a linear program of an object holds: each property, and how its value came to be held.
-#[derive(Debug, Drop)]
+#[derive(Drop)]
 pub struct ProgramHeld {
     pub name: String,
     pub held: Vec<(PropId, Origin)>,

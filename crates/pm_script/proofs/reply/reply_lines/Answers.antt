@@ -1,6 +1,6 @@
 -- The lines of rounds after their number, and those of a plan.
 use Rattle.std.proofs.Common.{codes}
-use Rattle.pm_script.proofs.Counted.{counted, counted_then}
+use Rattle.pm_script.proofs.Counted.{counted}
 use Rattle.pm_script.proofs.reply.reply_lines.Goals as goal
 
 pub returns-in_ok-push_counted-in-Ensured : goal.returns-in_ok-push_counted-in-Ensured
@@ -10,9 +10,3 @@ returns-in_ok-push_counted-in-Ensured c =
 pub returns-in_ok-push_plan-in-Explained : goal.returns-in_ok-push_plan-in-Explained
 returns-in_ok-push_plan-in-Explained c =
     rw c.in-Explained.is (rw (c.new-text-in-Explained.ensures.bytes, c.deref-in-Explained.ensures.value) at c.in_ok-push_plan-in-Explained.ensures)
-
-pub returns-in_ok-push_exclusions-in-History : goal.returns-in_ok-push_exclusions-in-History
-returns-in_ok-push_exclusions-in-History c =
-    rw c.in-History.is (counted_then _ _ (codes "rounds") _ _ c.in-History.rounds.items
-    (rw (c.new-text-in-History.ensures.bytes, c.deref-in-History.ensures.value) at c.in_ok-push_counted-in-History.ensures)
-    (rw c.deref-in-History-2.ensures.value at c.in_ok-push_exclusions-in-History.ensures))
