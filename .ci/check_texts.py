@@ -252,6 +252,11 @@ def file_text(random, values, extra):
     return blanks(random, '{' + ','.join(f'"{key}":{value}' for key, value in entries) + '}') + random.choice(['', '\n', ' \n'])
 
 
+def told_name(key):
+    """A key that was read over, as it is told: a word as it stands, and else its JSON text."""
+    return key if re.fullmatch('[A-Za-z_][A-Za-z0-9_.]*', key) else f'"{key}"'
+
+
 def saved_text(values, computed=()):
     entries = sorted(dict(values).items()) + [('_computed', spelled(list(computed)).replace("'", '"')), ('_excluded', '[]'), ('_profile', '2'), ('_type', '"polytope::Polytope<Rational>"')]
     return '{' + ','.join(f'"{key}":{value}' for key, value in entries) + '}\n'
@@ -263,9 +268,10 @@ def check_files(random, runs, count):
         names = random.sample([name for name in list(GIVEN) + TRUTHS if name != 'CONE_AMBIENT_DIM'], random.randint(0, 9))
         values = {name: random_value(random, name) for name in names}
         written = {name: value for name, (_, value) in values.items()}
-        # the file that polymake writes has other keys, and some begin with `_`
-        extra = random.sample([('N_POINTS', '3'), ('VERTEX_LABELS', '["a","b"]'), ('_ns', '{"polymake":["https://polymake.org","4.11"]}'), ('_info', '[1]'), ('ZZ', 'null')], random.randint(0, 3))
-        over = sorted(key for key, _ in extra if key[0] != '_')
+        # the file that polymake writes has other keys, and some begin with `_`; here some are no words
+        extra = random.sample([('N_POINTS', '3'), ('VERTEX_LABELS', '["a","b"]'), ('_ns', '{"polymake":["https://polymake.org","4.11"]}'), ('_info', '[1]'), ('ZZ', 'null'),
+                               ('', '0'), ('MY LABELS', '[]'), ('a\\nb', '1'), ('é', '2')], random.randint(0, 4))
+        over = [told_name(key) for key in sorted(key for key, _ in extra if not key.startswith('_'))]
         text = file_text(random, [(name, given) for name, (given, _) in values.items()], extra)
         if len({len(json.loads(written[name])) for name in ('SITES', 'SITE_HEIGHTS') if name in written}) == 2:
             status, wrote = runs.run('load p first\n', files={'first': text})
