@@ -1,0 +1,4 @@
+pub mod Told
+pub mod Examples
+pub mod Scripts
+pub mod Runs
