@@ -1,7 +1,7 @@
 -- The values that are read of a fan, as a fan by rows: it has the same cones.
 use Rattle.pm_vector.proofs.ConeLaws.{in_cone_set, in_generator, in_line, in_of, in_through, in_zero, lines_opposite}
-use Rattle.pm_vector.proofs.Filters.{map_among}
-use Rattle.pm_vector.proofs.Lists.{All_among, Among, all_at, all_from, among_All, among_Any, among_Contains}
+use Rattle.pm_vector.proofs.Filters.{among_map, any_from, any_to, map_among}
+use Rattle.pm_vector.proofs.Lists.{All_among, Among, Contains_among, all_at, all_from, among_All, among_Any, among_Contains, here, there}
 use Rattle.pm_vector.proofs.RowLaws.{entry-opposite, entry-plus, length-opposite, length-zeros, zeros}
 use Rattle.pm_vector.specs.Cones.{InCone, InSpan}
 use Rattle.pm_vector.specs.Numbers.{Ratio}
@@ -15,17 +15,19 @@ use Rattle.pm_laws_normal_fans.proofs.SumLaws.{entry-zeros}
 use Rattle.pm_laws_normal_fans.specs.Fans.{Fan, InPlace, IsConeAt, IsFan, IsSameFan}
 use Rattle.pm_refine.specs.CutRows.{fan_from}
 use Rattle.pm_refine.specs.ObjectFans.{rays_at}
-use Rattle.pm_relations.proofs.FanCones.{alike_in_cone, in_order_set, places_below, set_order}
+use Rattle.pm_relations.proofs.FanCones.{alike_in_cone, in_order_set, set_order}
 use Rattle.pm_relations.proofs.Standing.{in_order_length, same_direction}
 use Rattle.pm_relations.proofs.StandingSpans.{stand_for_span}
 use Rattle.pm_relations.proofs.Twins.{rays_generate}
 use Rattle.pm_types.specs.Forms.{are_indices}
 use Rattle.pm_types.specs.Right.{AreConeRays, InOrder, IsBasis, StandFor}
 use Rattle.pm_types.specs.Things.{Thing}
-use Rattle.std.proofs.Common.{ap, arith, refl, subst, suc, sym, true, zero, ◌∙◌}
+use Rattle.pm_geom.specs.Graphs.{holds}
+use Rattle.std.proofs.Common.{ap, arith, false, inl, inr, refl, subst, suc, sym, true, true≢false, zero, ◌∙◌}
+use Rattle.std.proofs.lemmas.Bool.{cases_lt, eqb-true}
 use Rattle.std.proofs.lemmas.Int.{ints}
-use Rattle.std.specs.List.{All, Any, Contains, slice_index_or}
-use Rattle.std.specs.Prelude.{List, [], length, map, ℕ, ◌<◌, ◌↔◌, ◌∷◌, ◌≡◌}
+use Rattle.std.specs.List.{Any, Contains, slice_index_or}
+use Rattle.std.specs.Prelude.{Bool, List, [], if◌then◌else◌, length, map, nat_eq, nat_le, nat_lt, ℕ, ◌&&◌, ◌+◌, ◌<◌, ◌≤◌, ◌↔◌, ◌∷◌, ◌≡◌, ◌⊎◌}
 use lib.IntN.{pos}
 use lib.Signed.{lt_z_yes}
 
@@ -87,11 +89,67 @@ right_sets t V (i ∷ places) (r ∷ rows) h =
     by w zero l = h.0
     by w (suc k) l = w.each k (omega arith)
 
+-- ---- the places of a set, ascending
+pick : (ℕ → Bool) → ℕ → ℕ → List ℕ
+pick f low zero = []
+pick f low (suc c) = if f low then low ∷ pick f (suc low) c else pick f (suc low) c
+
+leb-from : (a b : ℕ) → a ≤ b → nat_le a b ≡ true
+leb-from a b h = grind arith
+
+ltb-from : (a b : ℕ) → a < b → nat_lt a b ≡ true
+ltb-from a b h = grind arith
+
+same_test : (j : ℕ) → nat_eq j j ≡ true
+same_test j = grind arith
+
+index_first : (m b low : ℕ) (rest : Bool) → b ≤ low → low < m → rest ≡ true → (nat_le b low && nat_lt low m && rest) ≡ true
+index_first m b low rest h l e = let p : nat_le b low ≡ true = leb-from b low h in let q : nat_lt low m ≡ true = ltb-from low m l in rw (p, q, e) refl
+
+pick_ascends : (f : ℕ → Bool) (m b low c : ℕ) → b ≤ low → low + c ≤ m → are_indices m b (pick f low c) ≡ true
+unfolding pick
+pick_ascends f m b low zero h l = refl
+pick_ascends f m b low (suc c) h l = by (f low) (index_first m b low _ h (omega arith) (pick_ascends f m (suc low) (suc low) c (omega arith) (omega arith))) (pick_ascends f m b (suc low) c (omega arith) (omega arith))
+  where
+    by : (t : Bool) → are_indices m b (low ∷ pick f (suc low) c) ≡ true → are_indices m b (pick f (suc low) c) ≡ true → are_indices m b (if t then low ∷ pick f (suc low) c else pick f (suc low) c) ≡ true
+    by true x y = x
+    by false x y = y
+
+first_pick : (f : ℕ → Bool) (low j : ℕ) (xs : List ℕ) → f low ≡ true → (Among j xs → f j ≡ true) → Among j (low ∷ xs) → f j ≡ true
+first_pick f low _ xs e rest here = e
+first_pick f low j xs e rest (there i) = rest i
+
+pick_holds : (f : ℕ → Bool) (low c j : ℕ) → Among j (pick f low c) → f j ≡ true
+unfolding pick
+pick_holds f low zero j a = elim a [ ]
+pick_holds f low (suc c) j a = by (f low) refl (λ i. pick_holds f (suc low) c j i) a
+  where
+    by : (t : Bool) → f low ≡ t → (Among j (pick f (suc low) c) → f j ≡ true) → Among j (if t then low ∷ pick f (suc low) c else pick f (suc low) c) → f j ≡ true
+    by true e rest i = first_pick f low j (pick f (suc low) c) e rest i
+    by false e rest i = rest i
+
+pick_has : (f : ℕ → Bool) (low c j : ℕ) → f j ≡ true → low ≤ j → j < low + c → Among j (pick f low c)
+unfolding pick
+pick_has f low zero j e h l = absurd (omega arith)
+pick_has f low (suc c) j e h l = by (f low) refl (λ lt. pick_has f (suc low) c j e (omega arith) (omega arith)) (elim (cases_lt low j) [ inl lt ↦ inr lt | inr ge ↦ inl (omega arith) ])
+  where
+    by : (t : Bool) → f low ≡ t → (low < j → Among j (pick f (suc low) c)) → (low ≡ j) ⊎ (low < j) → Among j (if t then low ∷ pick f (suc low) c else pick f (suc low) c)
+    by true k later (inl same) = subst (λ z. Among z (low ∷ pick f (suc low) c)) same here
+    by true k later (inr lt) = there (later lt)
+    by false k later (inl same) = absurd (true≢false (sym e ∙ ap f (sym same) ∙ k))
+    by false k later (inr lt) = later lt
+
+among_held : (set : List ℕ) (j : ℕ) → Among j set → holds set j ≡ true
+among_held set j a = any_from (λ i. nat_eq i j) a (same_test j)
+
+held_among : (set : List ℕ) (j : ℕ) → holds set j ≡ true → Among j set
+held_among set j h = let (i, a, e) = any_to (λ i. nat_eq i j) set h in subst (λ z. Among z set) (eqb-true i j e) a
+
 -- ---- a fan, and rows that are right for it
-module _ (t : Thing) (o : Orders) (n : ℕ) (tn : t.cols ≡ n) (fan : IsFanThing n t.cones t.lines) (orders : AreFanOrders n t.cones t.lines o) (rays lines : List (List Ratio)) (xs K V L : List Row) (sets : List (List ℕ)) (m : ℕ)
+module _ (t : Thing) (o : Orders) (n : ℕ) (tn : t.cols ≡ n) (fan : IsFanThing n t.cones t.lines) (orders : AreFanOrders n t.cones t.lines o) (rays lines : List (List Ratio)) (xs K V L : List Row) (sets : List (List ℕ))
     (order : InOrder (SameModulo n (InSpan t.lines)) o.rays xs) (xs_stand : StandFor rays xs) (V_stand : StandFor rays V) (V_cols : HasCols n V)
     (basis : IsBasis n (InSpan t.lines) K) (K_stand : StandFor lines K) (L_stand : StandFor lines L) (L_cols : HasCols n L)
-    (right : AreConeRays t o.rays o.cones sets) (ascend : All (λ s. are_indices m 0 s ≡ true) sets) where
+    (right : AreConeRays t o.rays o.cones sets) where
   abbrev f : Fan
   f = fan_from (map (rays_at V) sets) L
 
@@ -146,17 +204,30 @@ module _ (t : Thing) (o : Orders) (n : ℕ) (tn : t.cols ≡ n) (fan : IsFanThin
     are : (j : ℕ) → Contains (set k) j ↔ ((j < length o.rays) × IsExtremeRay n (cone k) t.lines (ray o.rays j))
     are j = subst (λ c. Contains (set k) j ↔ ((j < length o.rays) × IsExtremeRay c (cone k) t.lines (ray o.rays j))) tn (by_places.each k l j)
 
-    ascends : are_indices m 0 (set k) ≡ true
-    ascends = let e = by_places.as_many in ascend k [] (omega arith)
+    -- the same places, ascending and each once
+    sorted : List ℕ
+    sorted = pick (holds (set k)) 0 (length o.rays)
+
+    ascends : are_indices (length o.rays) 0 (pick (holds (set k)) 0 (length o.rays)) ≡ true
+    ascends = pick_ascends (holds (set k)) (length o.rays) 0 0 (length o.rays) (omega arith) (omega arith)
+
+    from_sorted : (j : ℕ) → Among j (pick (holds (set k)) 0 (length o.rays)) → Among j (set k)
+    from_sorted j a = held_among (set k) j (pick_holds (holds (set k)) 0 (length o.rays) j a)
+
+    to_sorted : (j : ℕ) → Among j (set k) → Among j (pick (holds (set k)) 0 (length o.rays))
+    to_sorted j a = let l = ((are j).0 (Contains_among a)).0 in pick_has (holds (set k)) 0 (length o.rays) j (among_held (set k) j a) (omega arith) (omega arith)
+
+    are_sorted : (j : ℕ) → Contains (pick (holds (set k)) 0 (length o.rays)) j ↔ ((j < length o.rays) × IsExtremeRay n (cone k) t.lines (ray o.rays j))
+    are_sorted j = (λ c. (are j).0 (Contains_among (from_sorted j (among_Contains _ c))), λ e. Contains_among (to_sorted j (among_Contains _ ((are j).1 e))))
 
     every : (r : Row) → IsExtremeRay n (cone k) t.lines r → Any (λ v. SameModulo n (InSpan t.lines) r v) o.rays
     every = among_All (λ G. (r : Row) → IsExtremeRay n G t.lines r → Any (λ v. SameModulo n (InSpan t.lines) r v) o.rays) (among_at [] t.cones (place k) (place_within k l)) orders.all
 
-    own_order : IsOrder n (InCone (cone k) t.lines) (map (ray o.rays) (set k))
-    own_order = set_order n (cone k) t.lines (own k l) o.rays ray_cols every orders.once m (set k) ascends are
+    own_order : IsOrder n (InCone (cone k) t.lines) (map (ray o.rays) (pick (holds (set k)) 0 (length o.rays)))
+    own_order = set_order n (cone k) t.lines (own k l) o.rays ray_cols every orders.once (length o.rays) (pick (holds (set k)) 0 (length o.rays)) ascends are_sorted
 
     below : (j : ℕ) → Among j (set k) → j < length o.rays
-    below = places_below n (cone k) t.lines (own k l) o.rays ray_cols every orders.once m (set k) ascends are
+    below j a = ((are j).0 (Contains_among a)).0
 
     in_cone : (V xs : List Row) → InOrder (SameModulo n (InSpan t.lines)) V xs → InOrder (SameModulo n (InCone (cone k) t.lines)) V xs
     in_cone [] [] o = tt
@@ -164,8 +235,8 @@ module _ (t : Thing) (o : Orders) (n : ℕ) (tn : t.cols ≡ n) (fan : IsFanThin
     in_cone (v ∷ V) [] o = absurd o
     in_cone (v ∷ V) (x ∷ xs) o = (alike_in_cone n (cone k) t.lines (own k l) o.0, in_cone V xs o.1)
 
-    own_alike : InOrder (SameModulo n (InCone (cone k) t.lines)) (map (ray o.rays) (set k)) (rays_at V (set k))
-    own_alike = in_order_set (SameModulo n (InCone (cone k) t.lines)) o.rays V (set k) (in_cone o.rays V alike) below
+    own_alike : InOrder (SameModulo n (InCone (cone k) t.lines)) (map (ray o.rays) (pick (holds (set k)) 0 (length o.rays))) (rays_at V (pick (holds (set k)) 0 (length o.rays)))
+    own_alike = in_order_set (SameModulo n (InCone (cone k) t.lines)) o.rays V (pick (holds (set k)) 0 (length o.rays)) (in_cone o.rays V alike) (λ j a. below j (from_sorted j a))
 
     own_basis : IsBasis n (InLineality (InCone (cone k) t.lines)) K
     own_basis = record {
@@ -175,8 +246,19 @@ module _ (t : Thing) (o : Orders) (n : ℕ) (tn : t.cols ≡ n) (fan : IsFanThin
       spans = λ x lx h. basis.spans x lx (own k l x lx h);
     }
 
+    -- rays at places of the one list generate what those of the other do
+    more_rays : (r s : List ℕ) → ((j : ℕ) → Among j r → Among j s) → {x : Row} → InCone (rays_at V r) K x → InCone (rays_at V s) K x
+    more_rays r s f h = in_through (rays_at V s) K (rays_at V r) K
+        (λ g i. let (j, a, e) = map_among (ray V) r i in in_generator (subst (λ z. Among z (rays_at V s)) (sym e) (among_map (ray V) (f j a))))
+        (λ y i. let s' = in_of (rays_at V s) [] K (λ g j. elim j [ ]) (in_line i) in (s', lines_opposed y i)) h
+      where
+        lines_opposed : (y : Row) → Among y K → InCone (rays_at V s) K (opposite y)
+        lines_opposed y i = in_of (rays_at V s) [] K (λ g j. elim j [ ]) (lines_opposite K y (in_line i))
+
     generated : (x : Row) → length x ≡ n → InCone (cone k) t.lines x ↔ InCone (rays_at V (set k)) K x
-    generated = rays_generate n (cone k) t.lines (map (ray o.rays) (set k)) (rays_at V (set k)) own_order own_alike (generators k l) fan.lines K own_basis
+    generated x lx =
+        let w = rays_generate n (cone k) t.lines (map (ray o.rays) (pick (holds (set k)) 0 (length o.rays))) (rays_at V (pick (holds (set k)) 0 (length o.rays))) own_order own_alike (generators k l) fan.lines K own_basis x lx in
+        (λ h. more_rays (pick (holds (set k)) 0 (length o.rays)) (set k) from_sorted (w.0 h), λ h. w.1 (more_rays (set k) (pick (holds (set k)) 0 (length o.rays)) to_sorted h))
 
     -- the same with the lines L
     same_cone : (x : Row) → length x ≡ n → InCone (cone k) t.lines x ↔ InCone (rays_at V (set k)) L x

@@ -2,6 +2,7 @@
 use Rattle.pm_vector.proofs.ConeLaws.{in_line}
 use Rattle.pm_vector.proofs.Lists.{All_among, Among, all_at, all_from, among_All, among_Any, among_Contains, here, there}
 use Rattle.pm_vector.specs.Cones.{InCone, InSpan, IsIndependent}
+use Rattle.pm_vector.specs.Numbers.{Ratio}
 use Rattle.pm_vector.specs.Rows.{HasCols, Row}
 use Rattle.pm_vector.proofs.Columns.{basis_is_independent}
 use Rattle.pm_geom.proofs.Reduce.{extreme_as}
@@ -18,19 +19,16 @@ use Rattle.pm_laws_normal_fans.proofs.SameRefinements.{refinement_of_same}
 use Rattle.pm_laws_normal_fans.proofs.SameFans.{HasOrders, has_orders}
 use Rattle.pm_laws_normal_fans.specs.Fans.{Fan, InPlace, IsCommonRefinement, IsConeAt, IsFan, IsSameFan, cone_at}
 use Rattle.pm_laws_normal_fans.specs.Refinements.{HasRefinedRays, Intersection, IsIntersection, fan_of}
-use Rattle.pm_object.proofs.KnownValues.{held_forms}
 use Rattle.pm_object.specs.Known.{cols_at, held_rows, held_sets, rows_at, sets_at}
 use Rattle.pm_types.specs.Parts.{value_of_sets}
 use Rattle.pm_object.specs.State.{State, is_held, read_at, value_of}
 use Rattle.pm_object_type.specs.declared.object_type.ObjectType.TheVariants.{Fan as OfFan}
 use Rattle.pm_props.specs.declared.property.PropId.{PropId}
 use Rattle.pm_props.specs.declared.property.PropId.TheVariants.{LinealitySpace, MaximalCones, Vertices}
-use Rattle.pm_refine.proofs.ObjectFans.{AreFormedSets, cones_are_formed, held_cols}
 use Rattle.pm_refine.specs.ObjectFans.{IsFanOfObject, refine_reads}
 use Rattle.pm_refine.specs.Refined.{AreRaySets, AreRefined}
 use Rattle.pm_relations.proofs.PrimitiveStanding.{primitive_stand}
 use Rattle.pm_relations.proofs.Standing.{stand_for_ratios}
-use Rattle.pm_types.specs.Forms.{FormsIn}
 use Rattle.pm_types.specs.Right.{AreConeRays, InLinesOf, InOrder, IsBasis, Right, RightAll, RowsAreBasis, RowsAreInOrder, SameRayOf, StandFor}
 use Rattle.pm_types.specs.Things.{AreOrdersOf, IsOfType, IsThing, Thing}
 use Rattle.pm_types.specs.Values.{IndexSets, PropertyValue, matrix, sets}
@@ -52,47 +50,54 @@ read_fan_held p a t o i r = among_All (λ q. IsTrue (is_held q (read_at None a.h
 record IsReadMatrix (p : PropId) (a : State) (t : Thing) (o : Orders) : Type 0 where
   n : ℕ
   right : Right p (matrix n (rows_at p a)) t o []
-  forms : FormsIn a.of (cols_at a) p (matrix n (rows_at p a))
 
 read_vertices : (a : State) (t : Thing) (o : Orders) → ReadRightFan refine_reads a t o → IsReadMatrix Vertices a t o
 read_vertices a t o r = by (value_of Vertices (read_at None a.held)) refl (read_fan_held Vertices a t o here r)
   where
-    of_value : (v : PropertyValue) → value_of Vertices (read_at None a.held) ≡ Some v → Right Vertices v t o [] → FormsIn a.of (cols_at a) Vertices v → IsReadMatrix Vertices a t o
-    of_value (matrix n rows) e h g = record { n = n; right = subst (λ z. Right Vertices (matrix n z) t o []) (sym (ap held_rows e)) h; forms = subst (λ z. FormsIn a.of (cols_at a) Vertices (matrix n z)) (sym (ap held_rows e)) g }
-    of_value v e h g = absurd h
+    of_value : (v : PropertyValue) → value_of Vertices (read_at None a.held) ≡ Some v → Right Vertices v t o [] → IsReadMatrix Vertices a t o
+    of_value (matrix n rows) e h = record { n = n; right = subst (λ z. Right Vertices (matrix n z) t o []) (sym (ap held_rows e)) h }
+    of_value v e h = absurd h
 
     by : (x : Option PropertyValue) → value_of Vertices (read_at None a.held) ≡ x → is_some x ≡ true → IsReadMatrix Vertices a t o
     by None e h = absurd (true≢false (sym h))
-    by (Some v) e h = of_value v e (read_fan_value Vertices a t o here r v e) (held_forms a Vertices v r.formed r.known.cols e)
+    by (Some v) e h = of_value v e (read_fan_value Vertices a t o here r v e)
 
 read_lines : (a : State) (t : Thing) (o : Orders) → ReadRightFan refine_reads a t o → IsReadMatrix LinealitySpace a t o
 read_lines a t o r = by (value_of LinealitySpace (read_at None a.held)) refl (read_fan_held LinealitySpace a t o (there here) r)
   where
-    of_value : (v : PropertyValue) → value_of LinealitySpace (read_at None a.held) ≡ Some v → Right LinealitySpace v t o [] → FormsIn a.of (cols_at a) LinealitySpace v → IsReadMatrix LinealitySpace a t o
-    of_value (matrix n rows) e h g = record { n = n; right = subst (λ z. Right LinealitySpace (matrix n z) t o []) (sym (ap held_rows e)) h; forms = subst (λ z. FormsIn a.of (cols_at a) LinealitySpace (matrix n z)) (sym (ap held_rows e)) g }
-    of_value v e h g = absurd h
+    of_value : (v : PropertyValue) → value_of LinealitySpace (read_at None a.held) ≡ Some v → Right LinealitySpace v t o [] → IsReadMatrix LinealitySpace a t o
+    of_value (matrix n rows) e h = record { n = n; right = subst (λ z. Right LinealitySpace (matrix n z) t o []) (sym (ap held_rows e)) h }
+    of_value v e h = absurd h
 
     by : (x : Option PropertyValue) → value_of LinealitySpace (read_at None a.held) ≡ x → is_some x ≡ true → IsReadMatrix LinealitySpace a t o
     by None e h = absurd (true≢false (sym h))
-    by (Some v) e h = of_value v e (read_fan_value LinealitySpace a t o (there here) r v e) (held_forms a LinealitySpace v r.formed r.known.cols e)
+    by (Some v) e h = of_value v e (read_fan_value LinealitySpace a t o (there here) r v e)
 
 record AreReadCones (a : State) (t : Thing) (o : Orders) : Type 0 where
   right : Right MaximalCones (value_of_sets (sets_at MaximalCones a)) t o []
-  forms : FormsIn a.of (cols_at a) MaximalCones (value_of_sets (sets_at MaximalCones a))
 
 read_cones : (a : State) (t : Thing) (o : Orders) → ReadRightFan refine_reads a t o → AreReadCones a t o
 read_cones a t o r = by (value_of MaximalCones (read_at None a.held)) refl (read_fan_held MaximalCones a t o (there (there here)) r)
   where
-    of_value : (v : PropertyValue) → value_of MaximalCones (read_at None a.held) ≡ Some v → Right MaximalCones v t o [] → FormsIn a.of (cols_at a) MaximalCones v → AreReadCones a t o
-    of_value (sets rows n) e h g = record { right = subst (λ z. Right MaximalCones (value_of_sets z) t o []) (sym (ap held_sets e)) h; forms = subst (λ z. FormsIn a.of (cols_at a) MaximalCones (value_of_sets z)) (sym (ap held_sets e)) g }
-    of_value v e h g = absurd h
+    of_value : (v : PropertyValue) → value_of MaximalCones (read_at None a.held) ≡ Some v → Right MaximalCones v t o [] → AreReadCones a t o
+    of_value (sets rows n) e h = record { right = subst (λ z. Right MaximalCones (value_of_sets z) t o []) (sym (ap held_sets e)) h }
+    of_value v e h = absurd h
 
     by : (x : Option PropertyValue) → value_of MaximalCones (read_at None a.held) ≡ x → is_some x ≡ true → AreReadCones a t o
     by None e h = absurd (true≢false (sym h))
-    by (Some v) e h = of_value v e (read_fan_value MaximalCones a t o (there (there here)) r v e) (held_forms a MaximalCones v r.formed r.known.cols e)
+    by (Some v) e h = of_value v e (read_fan_value MaximalCones a t o (there (there here)) r v e)
 
 fan_thing_at : (t : Thing) → IsThing t → t.of ≡ OfFan → IsFanThing t.cols t.cones t.lines
 fan_thing_at t h e = (subst (λ k. IsOfType k t.cols t.generators t.lines t.cones) e h.kind).0
+
+-- rows that stand for the same rows have as many entries
+same_cols : (n : ℕ) (rows : List (List Ratio)) (xs ys : List Row) → StandFor rows xs → StandFor rows ys → HasCols n xs → HasCols n ys
+same_cols n [] [] [] s t h = tt
+same_cols n [] [] (y ∷ ys) s t h = absurd t
+same_cols n [] (x ∷ xs) ys s t h = absurd s
+same_cols n (r ∷ rows) [] ys s t h = absurd s
+same_cols n (r ∷ rows) (x ∷ xs) [] s t h = absurd t
+same_cols n (r ∷ rows) (x ∷ xs) (y ∷ ys) s t h = (t.0.cols ∙ sym s.0.cols ∙ h.0, same_cols n rows xs ys s.1 t.1 h.1)
 
 -- the fan that is computed with is a fan, and has the cones of the thing
 record IsSameAsRead (n : ℕ) (t : Thing) (f : Fan) : Type 0 where
@@ -101,10 +106,10 @@ record IsSameAsRead (n : ℕ) (t : Thing) (f : Fan) : Type 0 where
 
 same_as_read : (a : State) (t : Thing) (o : Orders) (f : Fan) (n : ℕ) → t.cols ≡ n → ReadRightFan refine_reads a t o → IsFanOfObject a f → IsSameAsRead n t f
 same_as_read a t o f n tn r w = subst (λ z. IsSameAsRead n t z) (sym w.is) (record {
-  fan = is_fan t o n tn fan orders (rows_at Vertices a) (rows_at LinealitySpace a) order.xs lineality.xs w.rays w.lines cones.rows cones.cols
-      (subst (λ k. InOrder (SameModulo k (InSpan t.lines)) o.rays order.xs) tn order.order) order.stand rays_stand rays_cols (subst (λ k. IsBasis k (InSpan t.lines) lineality.xs) tn lineality.basis) lineality.stand lines_stand lines_cols right formed.each;
-  same = same_fan t o n tn fan orders (rows_at Vertices a) (rows_at LinealitySpace a) order.xs lineality.xs w.rays w.lines cones.rows cones.cols
-      (subst (λ k. InOrder (SameModulo k (InSpan t.lines)) o.rays order.xs) tn order.order) order.stand rays_stand rays_cols (subst (λ k. IsBasis k (InSpan t.lines) lineality.xs) tn lineality.basis) lineality.stand lines_stand lines_cols right formed.each;
+  fan = is_fan t o n tn fan orders (rows_at Vertices a) (rows_at LinealitySpace a) order.xs lineality.xs w.rays w.lines cones.rows
+      (subst (λ k. InOrder (SameModulo k (InSpan t.lines)) o.rays order.xs) tn order.order) order.stand rays_stand rays_cols (subst (λ k. IsBasis k (InSpan t.lines) lineality.xs) tn lineality.basis) lineality.stand lines_stand lines_cols right;
+  same = same_fan t o n tn fan orders (rows_at Vertices a) (rows_at LinealitySpace a) order.xs lineality.xs w.rays w.lines cones.rows
+      (subst (λ k. InOrder (SameModulo k (InSpan t.lines)) o.rays order.xs) tn order.order) order.stand rays_stand rays_cols (subst (λ k. IsBasis k (InSpan t.lines) lineality.xs) tn lineality.basis) lineality.stand lines_stand lines_cols right;
 })
   where
     cones : IndexSets
@@ -141,16 +146,13 @@ same_as_read a t o f n tn r w = subst (λ z. IsSameAsRead n t z) (sym w.is) (rec
     lines_stand = primitive_stand (rows_at LinealitySpace a) w.lines w.are_lines
 
     rays_cols : HasCols n w.rays
-    rays_cols = subst (λ k. HasCols k w.rays) an (held_cols a.of (cols_at a) Vertices vertices.n (rows_at Vertices a) w.rays tt vertices.forms w.are_rays)
+    rays_cols = same_cols n (rows_at Vertices a) order.xs w.rays order.stand rays_stand (subst (λ k. HasCols k order.xs) tn order.cols)
 
     lines_cols : HasCols n w.lines
-    lines_cols = subst (λ k. HasCols k w.lines) an (held_cols a.of (cols_at a) LinealitySpace lines.n (rows_at LinealitySpace a) w.lines tt lines.forms w.are_lines)
+    lines_cols = same_cols n (rows_at LinealitySpace a) lineality.xs w.lines lineality.stand lines_stand (subst (λ k. HasCols k lineality.xs) tn lineality.basis.cols)
 
     right : AreConeRays t o.rays o.cones cones.rows
     right = read.right.1
-
-    formed : AreFormedSets cones.rows cones.cols
-    formed = cones_are_formed a.of (cols_at a) cones.rows cones.cols read.forms
 
 -- ---- a basis of the lineality of the refinement
 lines_independent : (n : ℕ) (f g : Fan) (K : List Row) (kept : List Intersection) → AreRefined n f g K kept → IsIndependent K × HasCols n K

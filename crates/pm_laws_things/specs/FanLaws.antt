@@ -11,7 +11,6 @@ use Rattle.pm_laws_normal_fans.specs.FaceFans.{IsFaceFan}
 use Rattle.pm_laws_normal_fans.specs.Fans.{Fan, IsCommonRefinement}
 use Rattle.pm_laws_normal_fans.specs.NormalFans.{IsNormalFan}
 use Rattle.pm_laws_normal_fans.specs.Sums.{Cone, In, IsBoundedPolytope}
-use Rattle.pm_object.specs.Formed.{IsFormed}
 use Rattle.pm_object.specs.Known.{IsKnown, cols_at}
 use Rattle.pm_object.specs.State.{State, read_at, value_of}
 use Rattle.pm_object_type.specs.declared.object_type.ObjectType.TheVariants.{Fan as OfFan, Polytope}
@@ -51,7 +50,6 @@ pub record IsRefinementOfFans (t s u : Thing) : Type 0 where
 -- t is a fan, of which the object's values of these properties are right
 pub record ReadRightFan (ps : List PropId) (a : State) (t : Thing) (o : Orders) : Type 0 where
   pub known : IsKnown ps a
-  pub formed : IsFormed a
   pub thing : IsThing t
   pub orders : AreOrders t o
   pub of : t.of ≡ OfFan

@@ -1,0 +1,16 @@
+pub mod Facts
+pub mod Twice
+pub mod Sound
+pub mod Reading
+pub mod Builds
+pub mod Objectives
+pub mod Placed
+pub mod Lines
+pub mod Building
+pub mod Saved
+pub mod Steps
+pub mod Laws
+pub mod Cubes
+pub mod Examples
+pub mod Saying
+pub mod Runs

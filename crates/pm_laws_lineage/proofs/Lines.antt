@@ -1,0 +1,135 @@
+-- What an object was made of, as a fact of one object and of all objects of a machine.
+use Rattle.pm_filing.specs.Filing.{loaded_object}
+use Rattle.pm_files.specs.Files.{SavedFile}
+use Rattle.pm_laws_lineage.proofs.Objectives.{sound_objective}
+use Rattle.pm_laws_lineage.proofs.Placed.{Placed, both_placed, ensured_placed, given_placed, loaded_placed, made_placed, settling_placed}
+use Rattle.pm_laws_lineage.proofs.Reading.{stands_for}
+use Rattle.pm_laws_lineage.proofs.Sound.{KnowsDimension, Sound, ensured_keeps, sound_settled}
+use Rattle.pm_laws_lineage.proofs.Twice.{settling_knows}
+use Rattle.pm_laws_lineage.specs.Provenances.{AllStandFor, Provenance, Provenances, StandsFor, lineage_of, made, of_its_values, put}
+use Rattle.pm_machine.proofs.Keeping.{decide, other_bytes, same_bytes}
+use Rattle.pm_machine.proofs.Kept.{honesty}
+use Rattle.pm_machine.specs.Machines.{Machine, OthersStay}
+use Rattle.pm_making.specs.Rows.{object_of}
+use Rattle.pm_object.proofs.Formed.{held_stays}
+use Rattle.pm_object.specs.Honest.{IsKept}
+use Rattle.pm_object.specs.State.{State, empty_object, given_at, has_rounds, is_given_at, is_held, is_sealed_at, read_at, settling, take_refusal, with_disabled, with_held, with_program}
+use Rattle.pm_object.specs.declared.held.TakeFail.{TakeFail}
+use Rattle.pm_object.specs.declared.held.TakeFail.TheVariants as fail
+use Rattle.pm_object_type.specs.declared.object_type.ObjectType.{ObjectType}
+use Rattle.pm_props.proofs.Places.{same_property_is}
+use Rattle.pm_props.specs.declared.property.PropId.{PropId}
+use Rattle.pm_props.specs.declared.property.PropId.TheVariants.{ConeAmbientDim, LinearObjective}
+use Rattle.pm_props.specs.declared.set.PropSet.{PropSet}
+use Rattle.pm_rounds.specs.Events.{Configuration, Ensured}
+use Rattle.pm_rounds.specs.declared.round.Ending.{Ending}
+use Rattle.pm_rules.specs.declared.rule.Rule.{Rule}
+use Rattle.pm_types.specs.Values.{PropertyValue}
+use Rattle.std.proofs.Common.{ap, bytes_eq, false, inl, inr, refl, subst, sym, true, true≢false, ◌∙◌}
+use Rattle.std.specs.Option.{is_some}
+use Rattle.std.specs.Prelude.{Bool, IfSome, List, None, Option, Some, [], if◌then◌else◌, not, ℕ, ◌∷◌, ◌≡◌}
+
+-- an object of this provenance between commands
+pub record InLine (provenance : Provenance) (o : State) : Type 0 where
+  pub kept : IsKept o
+  pub knows : KnowsDimension o
+  pub sound : Sound provenance o
+  pub placed : Placed o.held
+
+pub record AllInLine (provenances : Provenances) (m : Machine) : Type 0 where
+  pub each : (q : List ℕ) → IfSome (m.object q) (InLine (provenances q))
+
+-- ---- one object
+no_rounds_known : (o : State) → has_rounds o ≡ false → KnowsDimension o
+no_rounds_known o none = λ h. absurd (true≢false (sym h ∙ none))
+
+module _ (book : List Rule) where
+  pub in_line_settled : (provenance : Provenance) (o : State) → InLine provenance o → InLine provenance (with_held o (settling o))
+  in_line_settled provenance o s = record { kept = (honesty book).settled o s.kept; knows = λ h. settling_knows o s.knows; sound = sound_settled provenance o s.sound; placed = both_placed o.held (settling o) s.placed (settling_placed o) }
+
+  pub in_line_ensured : (provenance : Provenance) (sub : Option ℕ) (asked : PropSet) (ending : Ending) (old new : Configuration) → Ensured book sub asked ending old new → InLine provenance old.object → InLine provenance new.object
+  in_line_ensured provenance sub asked ending old new e s =
+      let (sound, knows) = ensured_keeps provenance book sub asked ending old new e s.sound s.knows in
+      record { kept = (honesty book).ensured sub asked ending old new e s.kept; knows = knows; sound = sound; placed = ensured_placed book sub asked ending old new e s.placed }
+
+  pub in_line_program : (provenance : Provenance) (o : State) (name : List ℕ) → InLine provenance o → InLine provenance (with_program o name)
+  in_line_program of_its_values o name s = record { kept = (honesty book).program o name s.kept; knows = s.knows; sound = tt; placed = s.placed }
+  in_line_program (made l) o name s = record { kept = (honesty book).program o name s.kept; knows = s.knows; sound = s.sound; placed = s.placed }
+
+  pub in_line_disabled : (provenance : Provenance) (o : State) (label : List ℕ) → InLine provenance o → InLine provenance (with_disabled o label)
+  in_line_disabled of_its_values o label s = record { kept = (honesty book).disabled o label s.kept; knows = s.knows; sound = tt; placed = s.placed }
+  in_line_disabled (made l) o label s = record { kept = (honesty book).disabled o label s.kept; knows = s.knows; sound = s.sound; placed = s.placed }
+
+  -- what is given to the object itself
+  pub in_line_taken : (provenance : Provenance) (o : State) (sub : Option ℕ) (p : PropId) (v : PropertyValue) → take_refusal o sub p v ≡ None → InLine provenance o → InLine of_its_values (with_held o (given_at sub p v ∷ []))
+  in_line_taken provenance o sub p v free s = record {
+    kept = (honesty book).taken o sub p v free s.kept;
+    knows = λ h. held_stays ConeAmbientDim o.held (given_at sub p v ∷ []) (s.knows h);
+    sound = tt;
+    placed = both_placed o.held (given_at sub p v ∷ []) s.placed (given_placed sub p v);
+  }
+
+  -- a program takes its objective alone
+  some_not_none : {A : Type 0} {a : A} → Some a ≡ None → ⊥
+  some_not_none e = true≢false (ap is_some e)
+
+  refusal_given : (o : State) (sub : Option ℕ) (p : PropId) (v : PropertyValue) → take_refusal o sub p v ≡ None → is_given_at o.of sub p ≡ true
+  refusal_given o sub p v e = by _ (is_held p (read_at sub o.held)) (is_sealed_at sub o) (is_given_at o.of sub p) e
+    where
+      by : (x : Option TakeFail) (a b c : Bool) → (if a then Some fail.AlreadyHeld else (if b then Some fail.Sealed else (if not c then Some fail.NotOfType else x))) ≡ None → c ≡ true
+      by x true b c h = absurd (some_not_none h)
+      by x false true c h = absurd (some_not_none h)
+      by x false false true h = refl
+      by x false false false h = absurd (some_not_none h)
+
+  pub in_line_objective : (provenance : Provenance) (o : State) (s : ℕ) (p : PropId) (v : PropertyValue) → take_refusal o (Some s) p v ≡ None → InLine provenance o → InLine provenance (with_held o (given_at (Some s) p v ∷ []))
+  in_line_objective provenance o s p v free is = record {
+    kept = (honesty book).taken o (Some s) p v free is.kept;
+    knows = λ h. held_stays ConeAmbientDim o.held (given_at (Some s) p v ∷ []) (is.knows h);
+    sound = subst (λ q. Sound provenance (with_held o (given_at (Some s) q v ∷ []))) (same_property_is LinearObjective p (refusal_given o (Some s) p v free)) (sound_objective provenance o s v is.sound);
+    placed = both_placed o.held (given_at (Some s) p v ∷ []) is.placed (given_placed (Some s) p v);
+  }
+
+  pub in_line_empty : (of : ObjectType) → InLine of_its_values (empty_object of)
+  in_line_empty of = record { kept = (honesty book).empty of; knows = no_rounds_known (empty_object of) refl; sound = tt; placed = λ h i own. elim i [ ] }
+
+  pub in_line_loaded : (provenance : Provenance) (f : SavedFile) → Sound provenance (loaded_object book f) → InLine provenance (loaded_object book f)
+  in_line_loaded provenance f s = record { kept = (honesty book).loaded f; knows = no_rounds_known (loaded_object book f) refl; sound = s; placed = loaded_placed book f }
+
+  pub in_line_made : (provenance : Provenance) (f : SavedFile) → Sound provenance (object_of f) → InLine provenance (object_of f)
+  in_line_made provenance f s = record { kept = (honesty book).made f; knows = no_rounds_known (object_of f) refl; sound = s; placed = made_placed f }
+
+pub in_line_stands : (provenance : Provenance) (o : State) → InLine provenance o → StandsFor (lineage_of provenance o) o
+in_line_stands provenance o s = stands_for provenance o s.kept.honest s.sound
+
+-- ---- all objects
+if_some : {P Q : State → Type 0} (x : Option State) → ((o : State) → P o → Q o) → IfSome x P → IfSome x Q
+if_some None f h = tt
+if_some (Some o) f h = f o h
+
+pub all_stand : (provenances : Provenances) (m : Machine) → AllInLine provenances m → AllStandFor provenances m
+all_stand provenances m all = record { each = λ q. if_some (m.object q) (λ o s. in_line_stands (provenances q) o s) (all.each q) }
+
+pub same_line : (provenances : Provenances) (old new : Machine) → ((q : List ℕ) → new.object q ≡ old.object q) → AllInLine provenances old → AllInLine provenances new
+same_line provenances old new same all = record { each = λ q. subst (λ z. IfSome z (InLine (provenances q))) (sym (same q)) (all.each q) }
+
+-- one object changes
+pub one_line : (provenances : Provenances) (name : List ℕ) (o : State) (old new : Machine) → new.object name ≡ Some o → OthersStay name old new → InLine (provenances name) o → AllInLine provenances old → AllInLine provenances new
+one_line provenances name o old new is others s all = record {
+  each = λ q. elim (decide (bytes_eq q name)) [
+    | inl e ↦ subst (λ z. IfSome (new.object z) (InLine (provenances z))) (sym (same_bytes q name e)) (subst (λ z. IfSome z (InLine (provenances name))) (sym is) s)
+    | inr e ↦ subst (λ z. IfSome z (InLine (provenances q))) (sym (others q (other_bytes q name e))) (all.each q)
+  ];
+}
+
+-- one object changes, and how it came
+pub new_line : (provenances : Provenances) (name : List ℕ) (provenance : Provenance) (o : State) (old new : Machine) → new.object name ≡ Some o → OthersStay name old new → InLine provenance o → AllInLine provenances old → AllInLine (put name provenance provenances) new
+new_line provenances name provenance o old new is others s all = record {
+  each = λ q. elim (decide (bytes_eq q name)) [
+    | inl e ↦ subst (λ z. IfSome (new.object q) (InLine (if z then provenance else provenances q))) (sym e) (subst (λ z. IfSome (new.object z) (InLine provenance)) (sym (same_bytes q name e)) (subst (λ z. IfSome z (InLine provenance)) (sym is) s))
+    | inr e ↦ subst (λ z. IfSome (new.object q) (InLine (if z then provenance else provenances q))) (sym e) (subst (λ z. IfSome z (InLine (provenances q))) (sym (others q (other_bytes q name e))) (all.each q))
+  ];
+}
+
+pub line_at : (provenances : Provenances) (m : Machine) (name : List ℕ) (o : State) → m.object name ≡ Some o → AllInLine provenances m → InLine (provenances name) o
+line_at provenances m name o is all = subst (λ z. IfSome z (InLine (provenances name))) is (all.each name)

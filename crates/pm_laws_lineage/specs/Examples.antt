@@ -1,0 +1,92 @@
+-- Lineages read: what they denote, and what they do not; and how objects came in a short run.
+use Rattle.std.specs.Prelude.{ℕ, ◌≡◌, ◌↔◌, ◌≤◌, ◌∷◌, [], List, None, Some, codes, false, true}
+use Rattle.pm_command.specs.Commands.{RefSeen, build_object, copy_object, cross_shape, cube_shape, drop_object, make_object, new_object, take_value}
+use Rattle.pm_command.specs.declared.building.Builder.TheVariants.{One}
+use Rattle.pm_command.specs.declared.building.Unary.TheVariants.{Polar}
+use Rattle.pm_laws_things.specs.BuildingExamples.{unit_segment}
+use Rattle.pm_laws_lineage.specs.Provenances.{Provenances, StandsFor, provenance_loaded, provenances_after, lineage_of, made, of_its_values, saved_if}
+use Rattle.pm_laws_lineage.specs.Lineages.{Denotes, Lineage, one, shape, with_objectives}
+use Rattle.pm_laws_lineage.specs.Saved.{keeps_halves}
+use Rattle.pm_limits.specs.Limits.{most_dimensions}
+use Rattle.pm_machine.specs.Machines.{Machine}
+use Rattle.pm_object.specs.State.{State, read_at, value_of}
+use Rattle.pm_props.specs.Kinds.{finding}
+use Rattle.pm_props.specs.declared.property.PropId.TheVariants.{Equations, Inequalities, InputLineality, Points, Vertices}
+use Rattle.pm_script.specs.Replies.{Rounds, done, nothing, refused}
+use Rattle.pm_script.specs.declared.refusal.Refusal.TheVariants.{NoChain}
+use Rattle.pm_geom.specs.Things.{Orders}
+use Rattle.pm_laws_things.specs.Built.{IsCross}
+use Rattle.pm_types.specs.Right.{Right}
+use Rattle.pm_types.specs.Things.{AreOrders, IsThing, Thing}
+use Rattle.pm_types.specs.Values.{PropertyValue}
+
+-- the polars of the cube are the cross-polytopes
+pub record PolarsOfCubesAreCrosses : Type 0 where
+  pub same : (d : ℕ) → 1 ≤ d → d ≤ most_dimensions → (u : Thing)
+      → Denotes (one Polar (shape (cube_shape d))) u ↔ Denotes (shape (cross_shape d)) u
+  -- the segment from 0 to 1 is none
+  pub other : ¬ (Denotes (one Polar (shape (cube_shape 1))) unit_segment)
+
+-- the lineage of d after `make c cube n`, `polar c d`: no objective was given
+abbrev pub polar_of_cube : ℕ → Lineage
+polar_of_cube n = with_objectives (one Polar (with_objectives (shape (cube_shape n)) [])) []
+
+-- what d holds then, as VERTICES, is right for each cross-polytope in n dimensions, in some orders
+abbrev pub PolarOfCubeIsShown : Type 0
+PolarOfCubeIsShown = (n : ℕ) → 1 ≤ n → n ≤ most_dimensions → (o : State) (v : PropertyValue)
+    → StandsFor (polar_of_cube n) o → value_of Vertices (read_at None o.held) ≡ Some v
+    → (u : Thing) → IsThing u → IsCross n u → (q : Orders) × AreOrders u q × Right Vertices v u q []
+
+-- the objects c and d, and the program lp of d
+abbrev pub object_c : RefSeen
+object_c = record { name = codes "c"; sub = None }
+
+abbrev pub object_d : RefSeen
+object_d = record { name = codes "d"; sub = None }
+
+abbrev pub program_d : RefSeen
+program_d = record { name = codes "d"; sub = Some (codes "lp") }
+
+-- `make c cube 3`, `polar c d`, `copy d e`, `take d POINTS ..`, `drop c`
+pub record ProvenancesAreRead : Type 0 where
+  pub shape_made : (m : Machine) (k : Provenances) (t : Rounds)
+      → provenances_after (make_object (codes "c") (cube_shape 3)) (done t) m k (codes "c")
+      ≡ made (shape (cube_shape 3))
+  -- of what another name stands for, nothing changes
+  pub others : (m : Machine) (k : Provenances) (t : Rounds)
+      → provenances_after (make_object (codes "c") (cube_shape 3)) (done t) m k (codes "d") ≡ k (codes "d")
+  -- the polar of what c stands for then
+  pub polar : (m : Machine) (k : Provenances) (t : Rounds) (o : State) → m.object (codes "c") ≡ Some o
+      → provenances_after (build_object (One Polar) (codes "c" ∷ []) (codes "d")) (done t) m k (codes "d")
+      ≡ made (one Polar (lineage_of (k (codes "c")) o))
+  -- of what is refused nothing is made
+  pub not_made : (m : Machine) (k : Provenances)
+      → provenances_after (build_object (One Polar) (codes "c" ∷ []) (codes "d")) (refused NoChain nothing) m k ≡ k
+  pub copied : (m : Machine) (k : Provenances) (t : Rounds)
+      → provenances_after (copy_object (codes "d") (codes "e")) (done t) m k (codes "e") ≡ k (codes "d")
+  -- what is given to d itself makes d one of its values; what is given to a program of d does not
+  pub taken : (m : Machine) (k : Provenances) (t : Rounds) (json : List ℕ)
+      → provenances_after (take_value object_d (codes "POINTS") json) (done t) m k (codes "d") ≡ of_its_values
+  pub objective : (m : Machine) (k : Provenances) (t : Rounds) (json : List ℕ)
+      → provenances_after (take_value program_d (codes "LINEAR_OBJECTIVE") json) (done t) m k ≡ k
+  -- d stays the polar of what c stood for where c is dropped, and where a new object has its name
+  pub dropped : (m : Machine) (k : Provenances) (t : Rounds)
+      → provenances_after (drop_object (codes "c")) (done t) m k ≡ k
+  pub anew : (m : Machine) (k : Provenances) (t : Rounds)
+      → provenances_after (new_object object_c (codes "Cone")) (done t) m k (codes "d") ≡ k (codes "d")
+
+-- what is loaded, and which kinds leave nothing unsaid
+pub record FilesAreRead : Type 0 where
+  -- of bytes that were saved, and of others
+  pub known : (l : Lineage) → provenance_loaded ((codes "ab", l) ∷ []) (codes "ab") ≡ made l
+  pub unknown : (l : Lineage) → provenance_loaded ((codes "ab", l) ∷ []) (codes "a") ≡ of_its_values
+  -- the latest of the same bytes
+  pub latest : (l k : Lineage) → provenance_loaded ((codes "ab", l) ∷ (codes "ab", k) ∷ []) (codes "ab")
+      ≡ made l
+  -- the lineage is not kept where something goes without saying
+  pub said : (s : List ℕ × Lineage) → saved_if [] s [] ≡ s ∷ []
+  pub unsaid : (s : List ℕ × Lineage) → saved_if (Equations ∷ []) s [] ≡ []
+  -- a client that finds INEQUALITIES without EQUATIONS leaves that there are none to be filled in
+  pub both_halves : keeps_halves (finding (codes "x") (Inequalities ∷ Equations ∷ []) (Points ∷ InputLineality ∷ []))
+      ≡ true
+  pub one_half : keeps_halves (finding (codes "x") (Inequalities ∷ []) (Points ∷ InputLineality ∷ [])) ≡ false

@@ -1,0 +1,77 @@
+-- An object that is saved and loaded again.
+use Rattle.std.specs.Prelude.{ℕ, ◌≡◌, ◌&&◌, ◌||◌, Bool, IsTrue, false, true, not, List, [], None, Option, Some}
+use Rattle.std.specs.List.{All, Contains}
+use Rattle.pm_files.specs.Files.{SavedFile}
+use Rattle.pm_filing.specs.Filing.{loaded_object}
+use Rattle.pm_filing.specs.Whole.{IsLoadedAgain}
+use Rattle.pm_geom.specs.Things.{Orders}
+use Rattle.pm_object.specs.Honest.{HonestAnswer, IsHonest, based, facts}
+use Rattle.pm_object.specs.State.{HeldValue, State, has_rounds, names_to_settle}
+use Rattle.pm_laws_lineage.specs.Provenances.{StandsFor}
+use Rattle.pm_laws_lineage.specs.Lineages.{Lineage}
+use Rattle.pm_props.specs.Properties.{has_program}
+use Rattle.pm_props.specs.Sets.{has}
+use Rattle.pm_props.specs.declared.kind.Kind.{Kind}
+use Rattle.pm_props.specs.declared.kind.RuleId.{RuleId}
+use Rattle.pm_rules.specs.Rules.{rule_at}
+use Rattle.pm_props.specs.declared.property.PropId.{PropId}
+use Rattle.pm_props.specs.declared.property.PropId.TheVariants.{AffineHull, Equations, Facets, Inequalities, InputLineality, LinealitySpace, Points, Vertices}
+use Rattle.pm_props.specs.declared.set.PropSet.{PropSet}
+use Rattle.pm_rounds.specs.Events.{Configuration, Ensured}
+use Rattle.pm_rounds.specs.declared.round.Ending.{Ending}
+use Rattle.pm_standard.specs.Table.{standard_kinds_list}
+use Rattle.pm_rules.specs.declared.rule.Rule.{Rule}
+use Rattle.pm_types.specs.Right.{RightAll}
+use Rattle.pm_types.specs.Things.{Thing}
+
+-- nothing goes without saying of what the object holds; and values of the object itself stand there
+pub record IsSaid (o : State) : Type 0 where
+  pub nothing : names_to_settle o.held ≡ []
+  pub placed : (h : HeldValue) → Contains o.held h → has_program h.property ≡ false → h.place ≡ None
+
+-- the same of an object for which a round was started
+pub record IsSaidOnce (o : State) : Type 0 where
+  pub nothing : has_rounds o ≡ true → names_to_settle o.held ≡ []
+  pub placed : (h : HeldValue) → Contains o.held h → has_program h.property ≡ false → h.place ≡ None
+
+-- For every thing, and all orders, for which the given and stored values of an honest object are right: what is loaded
+-- of its file holds right values, those that were given or stored and all others, in the orders in which all values
+-- of the object are right.
+abbrev pub LoadedAgainIsRight : Type 0
+LoadedAgainIsRight = (book : List Rule) (o : State) (f : SavedFile) → IsHonest o → IsSaid o
+    → IsLoadedAgain book o f → (t : Thing) (p : Orders) → t.of ≡ o.of → RightAll (facts (based o.held)) t p
+    → (a : HonestAnswer o.held t p) × RightAll (facts (loaded_object book f).held) t a.orders
+
+-- Whatever the object stands for, what is loaded of its file stands for it too.
+abbrev pub LoadedAgainStands : Type 0
+LoadedAgainStands = (book : List Rule) (o : State) (f : SavedFile) (l : Lineage) → StandsFor l o → IsSaid o
+    → IsLoadedAgain book o f → StandsFor l (loaded_object book f)
+
+-- ---- when it is so
+-- the kind finds p, or finds other things from it
+abbrev pub names : Kind → PropId → Bool
+names kind p = has kind.targets p || has kind.sources p
+
+-- where the kind finds one half of a description it finds the other, or has it: of these nothing goes without saying
+abbrev pub keeps_halves : Kind → Bool
+keeps_halves kind = (not (has kind.targets Points) || names kind InputLineality)
+    && (not (has kind.targets Inequalities) || names kind Equations)
+    && (not (has kind.targets Vertices) || names kind LinealitySpace || names kind Points || names kind Inequalities
+    || (names kind Facets && names kind AffineHull))
+    && (not (has kind.targets Facets) || names kind AffineHull || names kind Points || names kind Inequalities
+    || names kind Vertices)
+
+-- so are those of all rules of the book
+abbrev pub KeepsHalves : List Rule → Type 0
+KeepsHalves book = (id : RuleId) (rule : Rule) → rule_at book id ≡ Some rule → IsTrue (keeps_halves rule.kind)
+
+-- so are all kinds of standard and wide clients
+abbrev pub StandardKindsKeepHalves : Type 0
+StandardKindsKeepHalves = All (λ kind. IsTrue (keeps_halves kind)) standard_kinds_list
+
+-- By such a book an object that is ensured something is one of which nothing goes without saying; in it values stand
+-- where they may stand.
+abbrev pub EnsuredIsSaid : Type 0
+EnsuredIsSaid = (book : List Rule) → KeepsHalves book → (sub : Option ℕ) (asked : PropSet) (ending : Ending)
+    (old new : Configuration) → Ensured book sub asked ending old new → IsSaidOnce old.object
+    → IsSaid new.object × IsSaidOnce new.object

@@ -1,0 +1,66 @@
+//! What the objects of a run stand for: polars, products, sums, fans of what other objects stand for, and so on. It
+//! has no code.
+#![tactic(auto)]
+
+ghost use Rattle.pm_laws_lineage.specs.Examples.{FilesAreRead, ProvenancesAreRead, PolarOfCubeIsShown, PolarsOfCubesAreCrosses};
+ghost use Rattle.pm_laws_lineage.specs.Laws.{RunsKeepLineage, ShownIsRight};
+ghost use Rattle.pm_laws_lineage.specs.Runs.{RunKeepsLineage};
+ghost use Rattle.pm_laws_lineage.specs.Saved.{EnsuredIsSaid, LoadedAgainIsRight, LoadedAgainStands, StandardKindsKeepHalves};
+
+/// Along every run that begins without objects, the values of each object are right, in some orders, for each thing
+/// that its lineage denotes: whatever the clients answer.
+pub fn law_runs_keep_lineage()
+    ensures { RunsKeepLineage }
+{}
+
+/// So along each run of a script: after each line the values of each object are right, in some orders, for each thing
+/// that its lineage denotes, for the polars of what c stood for where it was made by `polar c d`.
+pub fn law_run_keeps_lineage()
+    ensures { RunKeepsLineage }
+{}
+
+/// A value that an object holds is right, in some orders, for each thing that the object stands for.
+pub fn law_shown_is_right()
+    ensures { ShownIsRight }
+{}
+
+/// Whatever an object stands for, what is loaded of its file stands for it too, where nothing went without saying.
+pub fn law_loaded_again_stands()
+    ensures { LoadedAgainStands }
+{}
+
+/// What is loaded of the file of an honest object holds right values, for every thing for which those that were given
+/// or stored are right.
+pub fn law_loaded_again_is_right()
+    ensures { LoadedAgainIsRight }
+{}
+
+/// Nothing goes without saying of an object that was ensured something by rules that keep halves together.
+pub fn law_ensured_is_said()
+    ensures { EnsuredIsSaid }
+{}
+
+/// The kinds of all standard and wide clients keep halves together.
+pub fn law_standard_kinds_keep_halves()
+    ensures { StandardKindsKeepHalves }
+{}
+
+/// The polars of the cube are the cross-polytopes.
+pub fn example_polars_of_cubes()
+    ensures { PolarsOfCubesAreCrosses }
+{}
+
+/// After `make c cube n` and `polar c d` the VERTICES of d are right for each cross-polytope.
+pub fn example_polar_of_cube()
+    ensures { PolarOfCubeIsShown }
+{}
+
+/// How objects came in a short run.
+pub fn example_provenances()
+    ensures { ProvenancesAreRead }
+{}
+
+/// What is loaded of bytes that were saved, and which kinds of clients leave nothing unsaid.
+pub fn example_files()
+    ensures { FilesAreRead }
+{}
