@@ -1,0 +1,17 @@
+pub mod Sorted
+pub mod Graphs
+pub mod Programs
+pub mod Rows
+pub mod Shapes
+pub mod Pairing
+pub mod FaceNumbers
+pub mod Table
+pub mod AlikeOrders
+pub mod OneOrder
+pub mod Fresh
+pub mod Objects
+pub mod TwoTriangulations
+pub mod TwoDuals
+pub mod Commits
+pub mod FindRows
+pub mod OrderExamples

@@ -1,0 +1,6 @@
+pub mod OneValue
+pub mod Orders
+pub mod Objects
+pub mod Examples
+pub mod Choosing
+pub mod OrderExamples
