@@ -7,6 +7,8 @@ ghost use Rattle.pm_laws_complete.specs.Comes.{GiveComes, StandardChainLeadsNow,
 ghost use Rattle.pm_laws_complete.specs.Completeness.{StandardBookIsComplete};
 ghost use Rattle.pm_laws_complete.specs.Examples.{DescriptionsAreRead, ObjectsAreRead};
 ghost use Rattle.pm_laws_complete.specs.Objects.{SomeChainLeads};
+ghost use Rattle.pm_laws_complete.specs.Spared.{KeptRulesStayFree, SparedGiveComes, SparedIsFound};
+ghost use Rattle.pm_laws_complete.specs.SparedExamples.{SparedIsRead};
 
 /// From each of the four descriptions the standard book has a chain to each property of polytopes, and of cones.
 pub fn law_standard_book_is_complete()
@@ -45,4 +47,24 @@ pub fn example_descriptions()
 /// When no rule is barred for an object.
 pub fn example_objects()
     ensures { ObjectsAreRead }
+{}
+
+/// Rules that no event excludes stay free.
+pub fn law_kept_rules_stay_free()
+    ensures { KeptRulesStayFree }
+{}
+
+/// Ensuring does not end for want of a chain where rules of which chains lead on are not excluded, whatever others are.
+pub fn law_spared_is_found()
+    ensures { SparedIsFound }
+{}
+
+/// Nor is `give` refused for want of one.
+pub fn law_spared_give_comes()
+    ensures { SparedGiveComes }
+{}
+
+/// Which events spare rules.
+pub fn example_spared()
+    ensures { SparedIsRead }
 {}
