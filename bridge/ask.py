@@ -17,6 +17,7 @@ from properties import PROGRAM_PROPERTIES, Kind, by_name
 from refusals import WORD, Notes, Refusal, shown, told_path
 from replies import names_read_over
 from session import Ended, Session
+from sizes import fits, largest, most_of
 
 PROPERTY = re.compile(r"(?:([A-Za-z][A-Za-z0-9_]{0,31})\.)?([A-Z][A-Z0-9_]*)", re.ASCII)
 OBJECT = "p"
@@ -127,6 +128,32 @@ def load_reply(lines):
     return f"ok ignored {' '.join(told)}"
 
 
+# The descriptions, each by its lines or equations and its other rows.
+DESCRIPTIONS = (
+    ("INPUT_LINEALITY", "POINTS"),
+    ("EQUATIONS", "INEQUALITIES"),
+    ("LINEALITY_SPACE", "VERTICES"),
+    ("AFFINE_HULL", "FACETS"),
+)
+
+
+def size_lines(asked):
+    """Whether the first description of the file fits by its size, before anything is computed."""
+    thing = asked.thing
+    for lines, rows in DESCRIPTIONS:
+        if thing.type_name == "Fan" or not thing.rows(rows):
+            continue
+        most = most_of([*thing.rows(lines), *thing.rows(rows)])
+        count = len(thing.rows(lines))
+        bound = largest(lambda size: fits(thing.columns, size, count))
+        told = f"{thing.columns} columns, whole entries of at most {most:,}"
+        if most <= bound:
+            yield f"it fits by its size ({told}): no number on the way to facets and vertices is too wide"
+        else:
+            yield f"it does not surely fit by its size ({told}): of at most {bound:,} it would"
+        return
+
+
 def held_lines(asked):
     """What a file holds, and what to type."""
     thing, path = asked.thing, told_path(asked.path)
@@ -140,6 +167,8 @@ def held_lines(asked):
     yield f"{path}: {kind}, with {', '.join(held) or 'no values'}"
     for program in thing.programs:
         yield f"{path}: its linear program {program.name}, with {', '.join(program.values)}"
+    for line in size_lines(asked):
+        yield f"{path}: {line}"
     example = " ".join(not_held(thing))
     if thing.programs:
         example = f"{thing.programs[0].name}.MAXIMAL_VALUE"
