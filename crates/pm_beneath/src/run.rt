@@ -21,7 +21,7 @@ use pm_vector::Ints;
 use std::alloc::{AllocError, Global};
 
 /// Why the cells of all fronts were not given.
-#[derive(Debug, Drop)]
+#[derive(Drop)]
 pub(crate) enum RunFail {
     /// A refusal of double description.
     Engine(DdFail),

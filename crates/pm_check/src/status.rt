@@ -7,7 +7,7 @@ ghost use Rattle.pm_check.specs.declared.status.NoAnswer.TheVariants.{Memory};
 use std::alloc::AllocError;
 
 /// How a run of the program ended.
-#[derive(Clone, Copy, Debug, PartialEq, Eq)]
+#[derive(Clone, Copy, PartialEq, Eq)]
 pub enum Status {
     /// The answer is a yes.
     Right,
@@ -43,7 +43,7 @@ impl Status {
 }
 
 /// Why there is no answer.
-#[derive(Clone, Copy, Debug, PartialEq, Eq)]
+#[derive(Clone, Copy, PartialEq, Eq)]
 pub enum NoAnswer {
     /// The words are none of the program, or ask no question.
     BadWords,

@@ -27,7 +27,7 @@ pub use values::{
 };
 
 /// Why a client did not answer.
-#[derive(Debug, Drop)]
+#[derive(Drop)]
 pub enum ClientFail {
     /// Memory was wanting.
     Memory,

@@ -17,7 +17,7 @@ use pm_types::{Counts, ObjectType, PropId, Value};
 use std::alloc::Global;
 
 /// The works of the clients that find sets, their sizes, and what these show.
-#[derive(Clone, Copy, Debug, PartialEq, Eq)]
+#[derive(Clone, Copy, PartialEq, Eq)]
 pub enum SetsWork {
     Incidence,
     VertexSizes,
@@ -53,7 +53,7 @@ impl SetsWork {
 }
 
 /// The clients that find sets, their sizes, and what these show.
-#[derive(Debug, Drop)]
+#[derive(Drop)]
 pub struct SetsFamily;
 
 /// A client that finds sets or sizes of sets. `incidence` fails exactly where a product of the primitive whole rows

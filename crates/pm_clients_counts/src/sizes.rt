@@ -16,7 +16,7 @@ use pm_types::{Counts, ObjectType, PropId, Value};
 use std::alloc::Global;
 
 /// The works of the clients that count rays and facets, or list rays.
-#[derive(Clone, Copy, Debug, PartialEq, Eq)]
+#[derive(Clone, Copy, PartialEq, Eq)]
 pub enum SizeWork {
     NVertices,
     NVerticesSets,
@@ -44,7 +44,7 @@ impl SizeWork {
 }
 
 /// The standard clients that count rays and facets or list rays.
-#[derive(Debug, Drop)]
+#[derive(Drop)]
 pub struct SizeFamily;
 
 /// A client that counts rays or facets or lists rays. It fails for want of memory alone.

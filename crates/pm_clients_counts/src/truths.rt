@@ -18,7 +18,7 @@ use pm_types::{ObjectType, PropId, Value};
 use std::alloc::Global;
 
 /// The works of the clients that find a truth value.
-#[derive(Clone, Copy, Debug, PartialEq, Eq)]
+#[derive(Clone, Copy, PartialEq, Eq)]
 pub enum TestWork {
     Feasible,
     Bounded,
@@ -46,7 +46,7 @@ impl TestWork {
 }
 
 /// The standard clients that find truth values.
-#[derive(Debug, Drop)]
+#[derive(Drop)]
 pub struct TestFamily;
 
 /// A client that finds a truth value. It fails for want of memory alone.

@@ -17,7 +17,7 @@ use pm_types::{Counts, ObjectType, PropId, Value};
 use std::alloc::Global;
 
 /// The works of the clients that find faces, and count them.
-#[derive(Clone, Copy, Debug, PartialEq, Eq)]
+#[derive(Clone, Copy, PartialEq, Eq)]
 pub enum FacesWork {
     Faces,
     FVector,
@@ -38,7 +38,7 @@ impl FacesWork {
 }
 
 /// The standard clients that find faces, and count them.
-#[derive(Debug, Drop)]
+#[derive(Drop)]
 pub struct FacesFamily;
 
 /// A client that finds faces or numbers of faces. But for want of memory only `faces` fails, and it does so exactly

@@ -18,7 +18,7 @@ use pm_types::{Counts, ObjectType, PropId, Value};
 use std::alloc::Global;
 
 /// The works of the clients of fans.
-#[derive(Clone, Copy, Debug, PartialEq, Eq)]
+#[derive(Clone, Copy, PartialEq, Eq)]
 pub enum FanWork {
     FanDims,
     FanDim,
@@ -54,7 +54,7 @@ impl FanWork {
 }
 
 /// The clients of fans.
-#[derive(Debug, Drop)]
+#[derive(Drop)]
 pub struct FanFamily;
 
 /// A client of fans. `fan_dims` fails exactly where a step of the elimination of the rows of a maximal cone leaves the

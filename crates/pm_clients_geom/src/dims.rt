@@ -24,7 +24,7 @@ use pm_vector::Ints;
 use std::alloc::Global;
 
 /// The works of the clients that find a dimension.
-#[derive(Clone, Copy, Debug, PartialEq, Eq)]
+#[derive(Clone, Copy, PartialEq, Eq)]
 pub enum DimWork {
     ConeDimV,
     ConeDimSpan,
@@ -61,7 +61,7 @@ impl DimWork {
 }
 
 /// The clients that find a dimension.
-#[derive(Debug, Drop)]
+#[derive(Drop)]
 pub struct DimFamily;
 
 /// A client that finds a dimension. `cone_dim_v` and `cone_dim_points` fail exactly where the rank of their row list

@@ -23,7 +23,7 @@ use pm_vector::Ints;
 use std::alloc::Global;
 
 /// The works of the clients of double description.
-#[derive(Clone, Copy, Debug, PartialEq, Eq)]
+#[derive(Clone, Copy, PartialEq, Eq)]
 pub enum HullWork {
     DdVertices,
     DdFacets,
@@ -66,7 +66,7 @@ impl HullWork {
 }
 
 /// The clients of double description.
-#[derive(Debug, Drop)]
+#[derive(Drop)]
 pub struct HullFamily;
 
 /// A client of double description. It fails for want of memory, where a step leaves the range, and where a cone on the
@@ -175,7 +175,7 @@ impl Family for HullFamily {
 }
 
 /// The two parts of a row list, as primitive whole rows.
-#[derive(Debug, Drop)]
+#[derive(Drop)]
 pub(crate) struct Parts {
     /// The lines, or the equations.
     pub(crate) first: Vec<Ints>,

@@ -20,7 +20,7 @@ use pm_types::{PropId, Sets, Value};
 use std::alloc::Global;
 
 /// The works of the clients that place rays.
-#[derive(Clone, Copy, Debug, PartialEq, Eq)]
+#[derive(Clone, Copy, PartialEq, Eq)]
 pub enum PlaceWork {
     BbFacets,
     BbFacetsV,
@@ -50,7 +50,7 @@ impl PlaceWork {
 }
 
 /// The clients that place rays.
-#[derive(Debug, Drop)]
+#[derive(Drop)]
 pub struct PlaceFamily;
 
 /// A client that places rays (De Loera, Rambau and Santos, Triangulations, section 4.3). It fails for want of memory,

@@ -17,7 +17,7 @@ use pm_types::{ObjectType, PropId, Value};
 use std::alloc::Global;
 
 /// The works of the clients of linear programs over half-spaces or generators.
-#[derive(Clone, Copy, Debug, PartialEq, Eq)]
+#[derive(Clone, Copy, PartialEq, Eq)]
 pub enum RedundancyWork {
     ThinPointsLp,
     ThinInequalitiesLp,
@@ -56,7 +56,7 @@ impl RedundancyWork {
 }
 
 /// The clients of linear programs over half-spaces or generators.
-#[derive(Debug, Drop)]
+#[derive(Drop)]
 pub struct RedundancyFamily;
 
 /// A client of linear programs. It fails for want of memory, and where a pivot of one of its programs leaves the

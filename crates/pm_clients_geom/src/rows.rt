@@ -30,7 +30,7 @@ use pm_vector::Ints;
 use std::alloc::Global;
 
 /// The works of the clients that find rows.
-#[derive(Clone, Copy, Debug, PartialEq, Eq)]
+#[derive(Clone, Copy, PartialEq, Eq)]
 pub enum RowsWork {
     PointsFromVertices,
     InequalitiesFromFacets,
@@ -66,7 +66,7 @@ impl RowsWork {
 }
 
 /// The clients that find rows.
-#[derive(Debug, Drop)]
+#[derive(Drop)]
 pub struct RowsFamily;
 
 /// A client that finds rows. `lineality_from_facets` and `hull_from_vertices` fail exactly where the null space of

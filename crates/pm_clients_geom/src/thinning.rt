@@ -25,7 +25,7 @@ use pm_vector::Ints;
 use std::alloc::Global;
 
 /// The works of the clients that thin, and of those that find rows from sets.
-#[derive(Clone, Copy, Debug, PartialEq, Eq)]
+#[derive(Clone, Copy, PartialEq, Eq)]
 pub enum ThinWork {
     ThinPointsF,
     ThinInequalitiesV,
@@ -68,7 +68,7 @@ impl ThinWork {
 }
 
 /// The clients that thin, and those that find rows from sets.
-#[derive(Debug, Drop)]
+#[derive(Drop)]
 pub struct ThinFamily;
 
 /// A client that thins or takes sets. It fails for want of memory, where a step of an elimination or a product leaves

@@ -15,7 +15,7 @@ use pm_types::{Counts, ObjectType, PropId, Value};
 use std::alloc::Global;
 
 /// The works of the clients that find graphs, and what these show.
-#[derive(Clone, Copy, Debug, PartialEq, Eq)]
+#[derive(Clone, Copy, PartialEq, Eq)]
 pub enum GraphWork {
     GraphOfSets,
     GraphOfFaces,
@@ -50,7 +50,7 @@ impl GraphWork {
 }
 
 /// The standard clients that find graphs, and what these show.
-#[derive(Debug, Drop)]
+#[derive(Drop)]
 pub struct GraphFamily;
 
 /// A client that finds a graph, or what a graph shows. It fails for want of memory alone.

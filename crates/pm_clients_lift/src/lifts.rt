@@ -23,7 +23,7 @@ use pm_vector::Ints;
 use std::alloc::Global;
 
 /// The works of the clients that lift sites.
-#[derive(Clone, Copy, Debug, PartialEq, Eq)]
+#[derive(Clone, Copy, PartialEq, Eq)]
 pub enum LiftWork {
     RegularCells,
     Delaunay,
@@ -50,7 +50,7 @@ impl LiftWork {
 }
 
 /// The clients that lift sites.
-#[derive(Debug, Drop)]
+#[derive(Drop)]
 pub struct LiftFamily;
 
 /// A client that lifts sites (Ziegler, Lectures on Polytopes, section 5.1). It fails for want of memory, where a step

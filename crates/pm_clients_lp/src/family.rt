@@ -14,7 +14,7 @@ use pm_standard::StandardClient;
 use std::alloc::Global;
 
 /// The works of the clients of linear programs, each in either sense.
-#[derive(Clone, Copy, Debug, PartialEq, Eq)]
+#[derive(Clone, Copy, PartialEq, Eq)]
 pub enum LpWork {
     /// The optimum with a dual, over FACETS.
     OverFacets(Sense),
@@ -75,7 +75,7 @@ impl LpWork {
 }
 
 /// The clients of linear programs over polytopes.
-#[derive(Debug, Drop)]
+#[derive(Drop)]
 pub struct LpFamily;
 
 /// A client of linear programs. It fails for want of memory; the optima over half-spaces where a pivot of their

@@ -20,7 +20,7 @@ use pm_wide_programs::maximise_rows_by;
 use std::alloc::Global;
 
 /// An optimum, and the rows of a dual that shows it.
-#[derive(Debug, Drop)]
+#[derive(Drop)]
 pub struct OptimumWithDual {
     /// The optimum.
     pub value: Number,

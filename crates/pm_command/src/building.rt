@@ -12,7 +12,7 @@ use crate::words::{is_name, is_number_word, split_word};
 use std::alloc::Global;
 
 /// What is built of one object.
-#[derive(Clone, Copy, Debug, PartialEq, Eq)]
+#[derive(Clone, Copy, PartialEq, Eq)]
 pub enum Unary {
     /// The polar of a polytope.
     Polar,
@@ -25,7 +25,7 @@ pub enum Unary {
 }
 
 /// What is built of two objects.
-#[derive(Clone, Copy, Debug, PartialEq, Eq)]
+#[derive(Clone, Copy, PartialEq, Eq)]
 pub enum Binary {
     /// The product of two polytopes.
     Product,
@@ -36,14 +36,14 @@ pub enum Binary {
 }
 
 /// What is built, of one object or of two.
-#[derive(Clone, Copy, Debug, PartialEq, Eq)]
+#[derive(Clone, Copy, PartialEq, Eq)]
 pub enum Builder {
     One(Unary),
     Two(Binary),
 }
 
 /// What is built, and the names of the objects that it is built of.
-#[derive(Debug, Drop)]
+#[derive(Drop)]
 pub enum Building {
     One(Unary, String),
     Two(Binary, String, String),

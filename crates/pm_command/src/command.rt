@@ -21,7 +21,7 @@ use std::str;
 use thiserror::Error;
 
 /// The name of an object, or of a part of one: NAME or NAME.SUB.
-#[derive(Debug, Drop)]
+#[derive(Drop)]
 pub struct Ref {
     pub name: String,
     pub sub: Option<String>,
@@ -42,7 +42,7 @@ pub enum Shape {
 }
 
 /// A command, by its words.
-#[derive(Debug, Drop)]
+#[derive(Drop)]
 pub enum Command {
     /// Nothing is asked, and nothing is replied.
     Blank,

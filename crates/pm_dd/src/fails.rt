@@ -57,7 +57,7 @@ impl<T: Drop> From<AllocFailed<T>> for DdFail {
 }
 
 /// Why a step was given up.
-#[derive(Debug, Drop)]
+#[derive(Drop)]
 pub enum StepFail {
     /// The product of the next row with the ray at this place leaves the range.
     Product(usize),
@@ -75,7 +75,7 @@ pub enum StepFail {
 
 /// Why a combination was given up: the product with the first or with the second ray leaves the range, or the
 /// combination does in a column; or want of memory.
-#[derive(Debug, Drop)]
+#[derive(Drop)]
 pub(crate) enum CombinationFail {
     First,
     Second,

@@ -9,7 +9,7 @@ use pm_fraction::Fraction;
 /// Which of the three it is, is determined by the program (`law_answers_are_exact`).
 /// Points and directions have a fraction for each column, duals and multipliers one for each inequality, not
 /// negative, and then one for each equation.
-#[derive(Debug, Drop)]
+#[derive(Drop)]
 pub enum LpAnswer {
     Optimal {
         value: Fraction,

@@ -11,7 +11,7 @@ use pm_vector::{Ints, gcd};
 use std::alloc::{AllocError, Global};
 
 /// An objective, taken a positive number of times, so that it is whole.
-#[derive(Debug, Drop)]
+#[derive(Drop)]
 pub(crate) struct WholeObjective {
     pub times: i128,
     pub row: Ints,

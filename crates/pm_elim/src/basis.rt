@@ -4,7 +4,7 @@ use pm_vector::Ints;
 use std::marker::Model;
 
 /// An echelon basis, as each value of this type is: its rows, and the column of each one's first entry that is not 0.
-#[derive(Debug, Drop)]
+#[derive(Drop)]
 pub struct Echelon {
     pub rows: Vec<Ints>,
     pub pivots: Vec<usize>,

@@ -7,7 +7,7 @@ ghost use Rattle.std.specs.Prelude.{pos, ◌<ℤ◌, ◌*ℤ◌, ◌≡◌};
 use pm_vector::gcd;
 
 /// The multiples of two rows whose difference is 0 in a column.
-#[derive(Clone, Copy, Debug)]
+#[derive(Clone, Copy)]
 pub struct Factors {
     /// How many times the first row is taken.
     pub first: i128,

@@ -2,5 +2,5 @@
 //! read and answer, sound runs and honest objects. It has no code.
 #![tactic(auto)]
 
-pub mod values;
 pub mod runs;
+pub mod values;

@@ -18,7 +18,7 @@ use pm_types::{Evidence, Lattice, Sets};
 use std::alloc::{AllocError, Global};
 
 /// Why there is no lattice.
-#[derive(Debug, Drop)]
+#[derive(Drop)]
 pub enum LatticeFail {
     /// There are more than `MOST_FACES` faces, or they have more than `MOST_PLACES` indices together: E5 shows
     /// so many of them.

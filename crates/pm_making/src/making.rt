@@ -21,7 +21,7 @@ use std::alloc::{AllocError, Global};
 
 /// A command that builds an object of others: the type of these, and the properties that are ensured of each, in
 /// their order.
-#[derive(Clone, Copy, Debug)]
+#[derive(Clone, Copy)]
 pub struct Row {
     pub of: ObjectType,
     pub reads: &'static [PropId],

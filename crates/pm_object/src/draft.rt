@@ -12,7 +12,7 @@ use std::alloc::Global;
 use std::marker::Model;
 
 /// Values for the targets of a kind, in the order in which they were put.
-#[derive(Debug, Drop)]
+#[derive(Drop)]
 pub struct Draft {
     kind: Kind,
     values: Vec<(PropId, Value)>,

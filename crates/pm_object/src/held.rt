@@ -10,7 +10,7 @@ use std::alloc::{AllocError, AllocFailed};
 use thiserror::Error;
 
 /// How a value came to be held.
-#[derive(Clone, Copy, Debug, PartialEq, Eq)]
+#[derive(Clone, Copy, PartialEq, Eq)]
 pub enum Origin {
     /// It was given, or goes without saying.
     Given,
@@ -30,7 +30,7 @@ impl Origin {
 }
 
 /// A value that is held.
-#[derive(Debug, Drop)]
+#[derive(Drop)]
 pub struct Held {
     /// The linear program that it belongs to; None: the object itself.
     pub place: Option<u8>,
@@ -43,7 +43,7 @@ pub struct Held {
 }
 
 /// Why a rule was excluded.
-#[derive(Debug, Drop)]
+#[derive(Drop)]
 pub enum Why {
     /// Its client failed with this evidence.
     Failed(Evidence),
@@ -54,7 +54,7 @@ pub enum Why {
 }
 
 /// A rule that is not tried again.
-#[derive(Debug, Drop)]
+#[derive(Drop)]
 pub struct Excluded {
     /// The rule.
     pub rule: RuleId,
@@ -65,7 +65,7 @@ pub struct Excluded {
 }
 
 /// How a round ended.
-#[derive(Clone, Copy, Debug, PartialEq, Eq)]
+#[derive(Clone, Copy, PartialEq, Eq)]
 pub enum RoundEnd {
     /// All rules of the chain were committed.
     Done,
@@ -76,7 +76,7 @@ pub enum RoundEnd {
 }
 
 /// A chain that was started.
-#[derive(Debug, Drop)]
+#[derive(Drop)]
 pub struct Round {
     /// The linear program that was asked, if one was.
     pub sub: Option<u8>,

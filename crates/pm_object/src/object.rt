@@ -33,7 +33,7 @@ use std::marker::Model;
 const PROGRAM_LIMIT: u8 = MOST_PROGRAMS as u8;
 
 /// An object: a polytope, cone or fan with what is known of it.
-#[derive(Debug, Drop)]
+#[derive(Drop)]
 pub struct Object {
     of: ObjectType,
     held: Vec<Held>,

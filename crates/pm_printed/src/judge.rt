@@ -14,7 +14,7 @@ use pm_rules::{Book, Claim, Cost, Rule, RuleId, TableRow};
 use std::alloc::{AllocError, Global};
 
 /// What a printed text proves.
-#[derive(Clone, Copy, Debug, PartialEq, Eq)]
+#[derive(Clone, Copy, PartialEq, Eq)]
 pub enum Verdict {
     /// The printed chain is least, and weighs so much.
     Least(Cost),

@@ -12,7 +12,7 @@ use std::alloc::AllocError;
 use std::fmt::Write;
 
 /// A barred rule, and why it is barred as it is told.
-#[derive(Debug, Drop)]
+#[derive(Drop)]
 pub(crate) struct Told {
     pub rule: RuleId,
     pub why: String,

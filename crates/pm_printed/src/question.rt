@@ -4,7 +4,7 @@ use pm_props::PropSet;
 use pm_rules::RuleId;
 
 /// What a printed table is to prove: the names in use, those held at the start and those asked, and the barred rules.
-#[derive(Debug, Drop)]
+#[derive(Drop)]
 pub struct Question {
     /// The names in use.
     pub names: PropSet,

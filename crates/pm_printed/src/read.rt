@@ -13,7 +13,7 @@ use pm_rules::{Cost, Rule, RuleId, TableRow};
 use std::alloc::{AllocError, Global};
 
 /// What a text is printed of, or the number of its first line that is not read.
-#[derive(Debug, Drop)]
+#[derive(Drop)]
 pub(crate) enum Reading {
     /// A chain with its weight and its table.
     Plan {

@@ -11,7 +11,7 @@ use std::marker::Model;
 pub const LONGEST: usize = 32;
 
 /// A name of at most 32 ASCII bytes, as clients have one and rules have a label. Contracts see it as its bytes.
-#[derive(Clone, Copy, Debug)]
+#[derive(Clone, Copy)]
 pub struct ClientName {
     bytes: [u8; 32],
     len: usize,

@@ -12,7 +12,7 @@ use pm_object_type::ObjectType;
 
 /// The signature of a client: its name, and the properties that it finds, that it reads, that must be true and that
 /// must be false.
-#[derive(Clone, Copy, Debug, PartialEq, Eq)]
+#[derive(Clone, Copy, PartialEq, Eq)]
 pub struct Kind {
     /// The client's name.
     pub name: ClientName,

@@ -119,7 +119,7 @@ pub enum PropId {
 }
 
 /// The form that a property's values have.
-#[derive(Clone, Copy, Debug, PartialEq, Eq)]
+#[derive(Clone, Copy, PartialEq, Eq)]
 pub enum ValueKind {
     /// Rows of fractions.
     Mat,
@@ -140,7 +140,7 @@ pub enum ValueKind {
 }
 
 /// The tables that have a property.
-#[derive(Clone, Copy, Debug, PartialEq, Eq)]
+#[derive(Clone, Copy, PartialEq, Eq)]
 pub enum Tables {
     /// Those of polytopes, of cones and of fans.
     All,
@@ -155,7 +155,7 @@ pub enum Tables {
 }
 
 /// What the rows of a property do to the cone.
-#[derive(Clone, Copy, Debug, PartialEq, Eq)]
+#[derive(Clone, Copy, PartialEq, Eq)]
 pub enum Describes {
     /// Nothing.
     Nothing,
@@ -177,7 +177,7 @@ pub enum Columns {
 }
 
 /// The test that each given row of a property has to pass.
-#[derive(Clone, Copy, Debug, PartialEq, Eq)]
+#[derive(Clone, Copy, PartialEq, Eq)]
 pub enum RowTest {
     /// None.
     Any,
@@ -194,7 +194,7 @@ pub enum RowTest {
 }
 
 /// What the table says of a property. A new property, and whatever is asked of it, is a row.
-#[derive(Debug, Drop)]
+#[derive(Drop)]
 pub struct PropertyRow {
     /// Its number.
     pub number: u8,

@@ -18,7 +18,7 @@ use pm_vector::Ints;
 use std::alloc::Global;
 
 /// The intersection of a cone of the first fan and a cone of the second.
-#[derive(Debug, Drop)]
+#[derive(Drop)]
 pub struct Intersection {
     /// The place of the cone of the first fan.
     pub first: u32,
@@ -29,7 +29,7 @@ pub struct Intersection {
 }
 
 /// The common refinement of two fans.
-#[derive(Debug, Drop)]
+#[derive(Drop)]
 pub struct Refinement {
     /// The maximal intersections in the order of the pairs, of equal ones the first.
     pub cones: Vec<Intersection>,

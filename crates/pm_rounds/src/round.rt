@@ -31,7 +31,7 @@ use pm_weights::Cost;
 use std::alloc::{AllocError, Global};
 
 /// How ensuring ends.
-#[derive(Clone, Copy, Debug, PartialEq, Eq)]
+#[derive(Clone, Copy, PartialEq, Eq)]
 pub enum Ending {
     /// All that was asked is held.
     Found,

@@ -10,7 +10,7 @@ use pm_props::RuleId;
 use std::marker::Model;
 
 /// A list of at most 256 rules with different labels. Contracts see it as that list.
-#[derive(Debug, Drop)]
+#[derive(Drop)]
 pub struct Book {
     rules: Vec<Rule>,
 }

@@ -7,7 +7,7 @@ use pm_weights::Weight;
 
 /// A rule: a client's kind under a label, its weight, and the properties that must be true or false, the kind's own
 /// among them.
-#[derive(Clone, Copy, Debug, PartialEq, Eq)]
+#[derive(Clone, Copy, PartialEq, Eq)]
 pub struct Rule {
     /// The rule's name in its book.
     pub label: ClientName,

@@ -10,7 +10,7 @@ use crate::rule::Rule;
 use pm_props::{Kind, PropId, PropSet, RuleId};
 
 /// What a property may speak of, beside the thing itself.
-#[derive(Clone, Copy, Debug, PartialEq, Eq)]
+#[derive(Clone, Copy, PartialEq, Eq)]
 pub enum Tag {
     /// The order of the extreme rays.
     Rays,
@@ -23,7 +23,7 @@ pub enum Tag {
 }
 
 /// What a rule asks of the names held, as sets.
-#[derive(Clone, Copy, Debug, PartialEq, Eq)]
+#[derive(Clone, Copy, PartialEq, Eq)]
 pub struct Step {
     /// What it finds; some of this must be missing.
     pub targets: PropSet,

@@ -20,7 +20,7 @@ pub struct Table {
 }
 
 /// What a table is to show.
-#[derive(Clone, Copy, Debug, PartialEq, Eq)]
+#[derive(Clone, Copy, PartialEq, Eq)]
 pub enum Claim {
     /// No chain costs less.
     Least(Cost),

@@ -29,7 +29,7 @@ impl Names {
 }
 
 /// Why a rule is barred: the first of these that holds.
-#[derive(Clone, Copy, Debug, PartialEq, Eq)]
+#[derive(Clone, Copy, PartialEq, Eq)]
 pub enum Bar {
     /// It was excluded, as its client failed with evidence of this number.
     Failed(u8),

@@ -9,7 +9,7 @@ use pm_vector::Ints;
 use std::alloc::AllocError;
 
 /// Why a value is refused.
-#[derive(Clone, Copy, Debug, PartialEq, Eq)]
+#[derive(Clone, Copy, PartialEq, Eq)]
 pub enum ValueWhy {
     /// The text is no JSON.
     Json,

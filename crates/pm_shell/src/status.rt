@@ -9,7 +9,7 @@ use pm_store::Failed;
 use std::alloc::AllocError;
 
 /// How a run of the program ended.
-#[derive(Clone, Copy, Debug, PartialEq, Eq)]
+#[derive(Clone, Copy, PartialEq, Eq)]
 pub enum Status {
     /// The script was read to its end, and no reply was a refusal.
     Answered,

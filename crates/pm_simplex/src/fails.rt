@@ -6,7 +6,7 @@ use pm_geom::Evidence;
 use std::alloc::{AllocError, AllocFailed};
 
 /// Why a linear program has no answer: a number left the range, as the evidence shows, or there is no memory.
-#[derive(Debug, Drop)]
+#[derive(Drop)]
 pub enum LpFail {
     Wide(Evidence),
     Memory,

@@ -20,7 +20,7 @@ use pm_vector::Ints;
 use std::alloc::Global;
 
 /// The objective of a linear program: a number for each column.
-#[derive(Debug, Drop)]
+#[derive(Drop)]
 pub struct Objective {
     /// Its numbers, that of the constant first.
     pub row: Vec<Fraction>,

@@ -10,7 +10,7 @@ use pm_vector::{Ints, negate};
 use std::alloc::{AllocError, Global};
 
 /// Which optimum of an objective is asked: the greatest value, or the least.
-#[derive(Clone, Copy, Debug, PartialEq, Eq)]
+#[derive(Clone, Copy, PartialEq, Eq)]
 pub enum Sense {
     /// The greatest value.
     Maximal,

@@ -9,7 +9,7 @@ use std::alloc::{AllocError, Global};
 
 /// The clients of the rules that are shipped, named by what they find and from what: the standard ones, and after them
 /// those that answer by wide numbers where the numbers on the way leave the range.
-#[derive(Clone, Copy, Debug, PartialEq, Eq)]
+#[derive(Clone, Copy, PartialEq, Eq)]
 pub enum StandardClient {
     /// VERTICES and LINEALITY_SPACE from INEQUALITIES, EQUATIONS.
     DdVertices,
@@ -204,7 +204,7 @@ pub enum StandardClient {
 }
 
 /// A rule that is shipped: the kind of its client, whose name is the rule's label, and what it weighs, of class 0.
-#[derive(Clone, Copy, Debug)]
+#[derive(Clone, Copy)]
 pub struct StandardRule {
     /// The kind of its client.
     pub kind: Kind,

@@ -23,7 +23,7 @@ use std::alloc::{AllocError, Global};
 use std::marker::Model;
 
 /// What a client answered for the targets of a rule, until all of it is added to an object, or none.
-#[derive(Debug, Drop)]
+#[derive(Drop)]
 pub struct Transaction {
     kind: Kind,
     sub: Option<u8>,

@@ -21,7 +21,7 @@ const MOST_WORDS: usize = 5;
 
 /// What the words say: the file of the rules, if they name one, whether rounds are traced, and the number of the demo,
 /// if they ask for one, which is from 1 to 8.
-#[derive(Debug, Drop)]
+#[derive(Drop)]
 pub struct Words {
     pub rules: Option<String>,
     pub trace: bool,
