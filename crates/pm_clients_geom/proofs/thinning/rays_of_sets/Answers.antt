@@ -28,6 +28,9 @@ read_parts-requires-clause-second c = has_listed _ sources Facets c.requires.kin
 pub sets_of-sets-requires-clause-source : goal.sets_of-sets-requires-clause-source
 sets_of-sets-requires-clause-source c = has_listed _ sources VerticesInFacets c.requires.kind.sources
 
+pub matrix_of_rays-requires-clause-rays : goal.matrix_of_rays-requires-clause-rays
+matrix_of_rays-requires-clause-rays c = rw (c.of-2.ensures.value, c.deref.ensures.value) (rw c.of.ensures.value at c.possible_rays-rays.ensures).may.before
+
 pub put_value-requires-clause-target : goal.put_value-requires-clause-target
 put_value-requires-clause-target c = has_listed _ (Vertices ∷ []) Vertices (ap (λ d. d.kind.targets) c.requires.empty ∙ c.requires.kind.targets)
 
