@@ -117,7 +117,11 @@ fn answer_next<K: Sink, F: Store>(
 {
     match answer_line(alloc, session, clients, line, store)? {
         None => Ok(false),
-        Some(reply) => write_reply(alloc, &reply, trace, sink),
+        Some(reply) => {
+            let written = write_reply(alloc, &reply, trace, sink);
+            drop(reply);
+            written
+        }
     }
 }
 
