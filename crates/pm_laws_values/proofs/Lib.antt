@@ -5,6 +5,8 @@ pub mod Rows
 pub mod Shapes
 pub mod Pairing
 pub mod FaceNumbers
+pub mod ConeOrders
+pub mod FaceOrders
 pub mod Table
 pub mod AlikeOrders
 pub mod OneOrder

@@ -3,9 +3,10 @@ use Rattle.pm_geom.proofs.Facets.{vanishes_line}
 use Rattle.pm_geom.specs.Cells.{IsCell, squares}
 use Rattle.pm_geom.specs.Cones.{IsValid, SameModulo, Vanishes}
 use Rattle.pm_geom.specs.Graphs.{IsDiameter, IsEdge, IsRidge, edge_count}
-use Rattle.pm_geom.specs.Things.{AreConeOrders, Orders}
+use Rattle.pm_geom.specs.Things.{Orders}
 use Rattle.pm_laws_things.proofs.Graphs.{graphs_of_all_orders}
 use Rattle.pm_laws_things.specs.Orders.{GraphsAreOfAllOrders}
+use Rattle.pm_laws_values.proofs.ConeOrders.{cone_orders}
 use Rattle.pm_laws_values.proofs.FaceNumbers.{f2_same, f_same}
 use Rattle.pm_laws_values.proofs.Graphs.{cone_dims_one, cone_rays_one, diagram_one, diameter_one, fan_dim_one, far_one, graph_one, incidence_one}
 use Rattle.pm_laws_values.proofs.Programs.{face_one, greatest_one, in_lowest_terms, opposites_one}
@@ -27,7 +28,7 @@ use Rattle.pm_types.specs.Canonical.{IsRayRow, Vanishing}
 use Rattle.pm_types.specs.Forms.{are_indices, is_matrix_form, is_row_of_entries, is_sets_form}
 use Rattle.pm_types.specs.Programs.{opposite_extended, opposite_objective}
 use Rattle.pm_types.specs.Right.{InLines, InLinesOf, InSet, InSomeOrders, IsFVector, IsFacetGraph, IsHVector, IsRayGraph, IsSimplicialTruth, Right, SameFacet, SameRay, SameRayOf, h_vector_of}
-use Rattle.pm_types.specs.Things.{AreOrders, AreOrdersOf, IsThing, Thing}
+use Rattle.pm_types.specs.Things.{AreOrders, IsThing, Thing}
 use Rattle.pm_types.specs.Values.{PropertyValue, edges, matrix, sets, whole}
 use Rattle.pm_types.specs.Views.{over_one, ratios}
 use Rattle.pm_vector.proofs.ConeLaws.{in_cone_set}
@@ -52,11 +53,6 @@ simplicial_one : (of : ObjectType) (t : Thing) (o : Orders) → AreOrders t o �
 simplicial_one Fan t o are a b h k = same_truth _ a b h k
 simplicial_one Polytope t o are a b h k = same_truth _ a b (h o are) (k o are)
 simplicial_one Cone t o are a b h k = same_truth _ a b (h o are) (k o are)
-
-cone_orders : (of : ObjectType) → ¬ (of ≡ Fan) → (n : ℕ) (G L : List Row) (Gs : List (List Row)) (o : Orders) → AreOrdersOf of n G L Gs o → AreConeOrders n G L o
-cone_orders Polytope other n G L Gs o a = a
-cone_orders Cone other n G L Gs o a = a
-cone_orders Fan other n G L Gs o a = absurd (other refl)
 
 -- ---- sets
 sets_of : (rows : List (List ℕ)) (n : ℕ) → is_sets_form rows n ≡ true → list_all (are_indices n 0) rows ≡ true

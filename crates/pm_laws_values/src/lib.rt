@@ -3,6 +3,7 @@
 
 ghost use Rattle.pm_laws_values.specs.Examples.{TwoValuesAreRead};
 ghost use Rattle.pm_laws_values.specs.Choosing.{StandardKindsFindRows};
+ghost use Rattle.pm_laws_values.specs.FaceNumbers.{FaceNumbersAreOne};
 ghost use Rattle.pm_laws_values.specs.Objects.{AnswersAreHeld, AnswersAreKept, OneValueOfObjects};
 ghost use Rattle.pm_laws_values.specs.OneValue.{OneValue};
 ghost use Rattle.pm_laws_values.specs.OrderExamples.{OneOrderIsRead};
@@ -60,4 +61,9 @@ pub fn law_answers_are_kept()
 /// one.
 pub fn law_standard_kinds_find_rows()
     ensures { StandardKindsFindRows }
+{}
+
+/// The f-vector and the flag numbers of two ranks are the same in every order of the rays.
+pub fn law_face_numbers_are_one()
+    ensures { FaceNumbersAreOne }
 {}
