@@ -10,6 +10,7 @@ pub mod ExistingShapes
 pub mod ExistingOthers
 pub mod SumRows
 pub mod SumDescribed
+pub mod ExistingSums
 pub mod BuildingExamples
 pub mod ExistenceExamples
 pub mod ReadSets

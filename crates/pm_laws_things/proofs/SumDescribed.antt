@@ -56,13 +56,13 @@ module _ (n : ℕ) (G L X K : List Row) (hg : HasCols n G) (hl : HasCols n L) (h
 
 -- ---- the sum of two polytopes with points
 module _ (n : ℕ) (P Q R : Cone) (some : 0 < n) (tp : IsPolytopeThing n P.generators P.lines) (tq : IsPolytopeThing n Q.generators Q.lines) (sum : IsSumOf n P Q R) where
-  sum_first : (x : Row) → length x ≡ n → In R x → pos 0 ≤ℤ entry x 0
+  pub sum_first : (x : Row) → length x ≡ n → In R x → pos 0 ≤ℤ entry x 0
   sum_first x lx h =
       let w = (sum.sum x lx).0 h in
       let e : entry w.first 0 ≡ w.factor *ℤ entry x 0 = w.sum.first ∙ entry-times w.factor x 0 in
       nonneg_cancel w.positive (subst (λ z. pos 0 ≤ℤ z) e (tp.first w.first w.first_cols w.of_first))
 
-  sum_in : (x y : Row) → length x ≡ n → length y ≡ n → In P x → In Q y → pos 0 <ℤ entry x 0 → pos 0 <ℤ entry y 0 → InMinkowskiSum n (In P) (In Q) (point_sum x y)
+  pub sum_in : (x y : Row) → length x ≡ n → length y ≡ n → In P x → In Q y → pos 0 <ℤ entry x 0 → pos 0 <ℤ entry y 0 → InMinkowskiSum n (In P) (In Q) (point_sum x y)
   sum_in x y lx ly ix iy ux uy = record {
     factor = pos 1;
     first = times (entry y 0) x;

@@ -1,10 +1,10 @@
--- What is built exists: of each shape there is a polytope, each polytope has a polar and a pyramid, and each two have
--- a product (Ziegler, Lectures on Polytopes, sections 0, 1.5 and 2.3). So what new objects describe is never nothing.
+-- What is built exists: of each shape there is a polytope, each polytope has a polar and a pyramid, each two have a
+-- product and a sum (Ziegler, Lectures on Polytopes, sections 0, 1.1, 1.5 and 2.3). So what new objects describe is never nothing.
 use Rattle.std.specs.Prelude.{ℕ, ◌+◌, ◌≡◌, ◌≤◌}
 use Rattle.pm_geom.specs.Things.{Orders}
 use Rattle.pm_object_type.specs.declared.object_type.ObjectType.TheVariants.{Polytope}
 use Rattle.pm_types.specs.Things.{AreOrders, IsThing, Thing}
-use Rattle.pm_laws_things.specs.Built.{IsCross, IsCube, IsCyclic, IsPolar, IsProduct, IsPyramid, IsSimplex}
+use Rattle.pm_laws_things.specs.Built.{IsCross, IsCube, IsCyclic, IsPolar, IsProduct, IsPyramid, IsSimplex, IsSum}
 use Rattle.pm_limits.specs.Limits.{most_columns, most_dimensions}
 
 -- there is a thing of which P holds, and there are orders of its rays and facets
@@ -40,3 +40,7 @@ ProductsExist = (t s : Thing) → IsSomePolytope t → IsSomePolytope s → t.co
 -- each polytope of at most 32 columns has a pyramid
 abbrev pub PyramidsExist : Type 0
 PyramidsExist = (t : Thing) → IsSomePolytope t → t.cols ≤ most_dimensions → SomeThing (IsPyramid t)
+
+-- each two polytopes of as many columns have a sum; where one is empty the sum is
+abbrev pub SumsExist : Type 0
+SumsExist = (t s : Thing) → IsSomePolytope t → IsSomePolytope s → s.cols ≡ t.cols → SomeThing (IsSum t s)

@@ -1,9 +1,12 @@
 -- Which built things there are, and which there are not: a thing has at most 33 columns.
-use Rattle.std.specs.Prelude.{ℕ, ◌+◌, ◌≤◌}
-use Rattle.pm_laws_things.specs.Built.{IsCross, IsCube, IsCyclic, IsProduct, IsPyramid, IsSimplex}
+use Rattle.std.specs.Prelude.{ℕ, [], ◌+◌, ◌≤◌}
+use Rattle.pm_geom.specs.Examples.{square, triple}
+use Rattle.pm_laws_things.specs.Built.{IsCross, IsCube, IsCyclic, IsProduct, IsPyramid, IsSimplex, IsSum}
 use Rattle.pm_laws_things.specs.BuildingExamples.{even_segment}
 use Rattle.pm_laws_things.specs.Existence.{IsSomePolytope, SomeThing}
+use Rattle.pm_laws_things.specs.FanExamples.{polytope}
 use Rattle.pm_object_type.specs.declared.object_type.ObjectType.TheVariants.{Cone}
+use Rattle.pm_types.specs.Right.{InSet}
 use Rattle.pm_types.specs.Things.{Thing}
 use Rattle.pm_limits.specs.Limits.{most_columns, most_dimensions}
 
@@ -20,3 +23,8 @@ pub record ExistenceIsRead : Type 0 where
   pub no_pyramid : (t : Thing) → most_columns ≤ t.cols → ¬ (SomeThing (IsPyramid t))
   -- a cone is no polytope
   pub not_cone : ¬ (IsSomePolytope (record even_segment { of = Cone }))
+  -- the unit square and itself have a sum, none of more than 33 columns; that with the empty polytope has no point
+  pub sum : SomeThing (IsSum (polytope 3 square) (polytope 3 square))
+  pub no_sum : (t s : Thing) → (most_columns + 1) ≤ t.cols → ¬ (SomeThing (IsSum t s))
+  pub empty_sum : SomeThing (IsSum (polytope 3 square) (polytope 3 []))
+  pub no_point : ¬ (SomeThing (λ u. IsSum (polytope 3 square) (polytope 3 []) u × InSet u (triple 1 0 0)))

@@ -1,7 +1,7 @@
 // Which polytopes new objects are: what their values are right for. It has no code. It knows nothing of rules,
 // clients and sessions.
 
-ghost use Rattle.pm_laws_things.specs.Existence.{PolarsExist, ProductsExist, PyramidsExist, ShapesExist};
+ghost use Rattle.pm_laws_things.specs.Existence.{PolarsExist, ProductsExist, PyramidsExist, ShapesExist, SumsExist};
 ghost use Rattle.pm_laws_things.specs.ExistenceExamples.{ExistenceIsRead};
 ghost use Rattle.pm_laws_things.specs.BuildingExamples.{MinkowskiSumsAreRead, OthersAreRead, ShapesAreRead};
 ghost use Rattle.pm_laws_things.specs.BuildingLaws.{CrossIsDescribed, CubeIsDescribed, CyclicIsDescribed, PolarIsDescribed, ProductIsDescribed, PyramidIsDescribed, SimplexIsDescribed, SumIsDescribed};
@@ -68,8 +68,13 @@ pub fn law_pyramids_exist()
     ensures { PyramidsExist }
 {}
 
+/// Each two polytopes of as many columns have a Minkowski sum.
+pub fn law_sums_exist()
+    ensures { SumsExist }
+{}
+
 /// The values of a Minkowski sum are right for the sum of each two polytopes for which the values read are right,
-/// bounded or not.
+/// bounded or not. Each two have one: `law_sums_exist`.
 pub fn law_sum_is_described()
     ensures { SumIsDescribed }
 {}
