@@ -26,6 +26,7 @@ pub mod SumFans
 pub mod Merged
 pub mod FanRays
 pub mod OrdersExist
+pub mod ExistingFans
 pub mod Renamed
 pub mod SameGraphs
 pub mod Sums

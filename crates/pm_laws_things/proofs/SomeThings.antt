@@ -27,7 +27,7 @@ use Rattle.pm_limits.specs.Limits.{most_columns}
 abbrev pub polytope_of : ℕ → List Row → List Row → Thing
 polytope_of n G L = record { of = Polytope; cols = n; generators = G; lines = L; cones = []; objective = λ s. zeros n; sites = []; heights = [] }
 
-no_objectives : (n : ℕ) → AreObjectives n (λ s. zeros n)
+pub no_objectives : (n : ℕ) → AreObjectives n (λ s. zeros n)
 no_objectives n = record {
   cols = λ s. length-replicate n (over_one (pos 0));
   denominators = λ s i l. subst (λ (q : Ratio). pos 0 <ℤ q.den) (sym (zeros_at n i)) (omega (arith, ints));

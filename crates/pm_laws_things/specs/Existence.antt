@@ -1,10 +1,13 @@
 -- What is built exists: of each shape there is a polytope, each polytope has a polar and a pyramid, each two have a
--- product and a sum (Ziegler, Lectures on Polytopes, sections 0, 1.1, 1.5 and 2.3). So what new objects describe is never nothing.
+-- product and a sum; there are normal fans and face fans (Ziegler, Lectures on Polytopes, sections
+-- 0, 1.1, 1.5, 2.3 and 7.1). So what new objects describe is never nothing.
 use Rattle.std.specs.Prelude.{ℕ, ◌+◌, ◌≡◌, ◌≤◌}
 use Rattle.pm_geom.specs.Things.{Orders}
 use Rattle.pm_object_type.specs.declared.object_type.ObjectType.TheVariants.{Polytope}
+use Rattle.pm_types.specs.Right.{IsCentered}
 use Rattle.pm_types.specs.Things.{AreOrders, IsThing, Thing}
 use Rattle.pm_laws_things.specs.Built.{IsCross, IsCube, IsCyclic, IsPolar, IsProduct, IsPyramid, IsSimplex, IsSum}
+use Rattle.pm_laws_things.specs.FanLaws.{IsBounded, IsFaceFanOf, IsNormalFanOf}
 use Rattle.pm_limits.specs.Limits.{most_columns, most_dimensions}
 
 -- there is a thing of which P holds, and there are orders of its rays and facets
@@ -44,3 +47,11 @@ PyramidsExist = (t : Thing) → IsSomePolytope t → t.cols ≤ most_dimensions 
 -- each two polytopes of as many columns have a sum; where one is empty the sum is
 abbrev pub SumsExist : Type 0
 SumsExist = (t s : Thing) → IsSomePolytope t → IsSomePolytope s → s.cols ≡ t.cols → SomeThing (IsSum t s)
+
+-- each bounded polytope that is not empty has a normal fan, where it has a column beside the first
+abbrev pub NormalFansExist : Type 0
+NormalFansExist = (t : Thing) → IsThing t → IsBounded t → 2 ≤ t.cols → SomeThing (IsNormalFanOf t)
+
+-- with 0 in its interior it has a face fan
+abbrev pub FaceFansExist : Type 0
+FaceFansExist = (t : Thing) → IsThing t → IsBounded t → IsCentered t → 2 ≤ t.cols → SomeThing (IsFaceFanOf t)

@@ -1,15 +1,18 @@
 // Which fans the fans of polytopes are: what their values are right for. It has no code. It knows nothing of rules,
 // clients and sessions.
 
+ghost use Rattle.pm_laws_things.specs.Existence.{FaceFansExist, NormalFansExist};
 ghost use Rattle.pm_laws_things.specs.FanExamples.{FansAreRead, RefinementsOfFansAreRead};
 ghost use Rattle.pm_laws_things.specs.FanLaws.{FaceFanIsDescribed, NormalFanIsDescribed, NormalFanOfSum, RefinementIsDescribed};
 
 /// The values of a normal fan are right for the normal fan of each polytope for which the values read are right.
+/// Each has one: `law_normal_fans_exist`.
 pub fn law_normal_fan_is_described()
     ensures { NormalFanIsDescribed }
 {}
 
 /// The values of a face fan are right for the face fan of each polytope for which the values read are right.
+/// Each has one: `law_face_fans_exist`.
 pub fn law_face_fan_is_described()
     ensures { FaceFanIsDescribed }
 {}
@@ -18,6 +21,16 @@ pub fn law_face_fan_is_described()
 /// are right.
 pub fn law_refinement_is_described()
     ensures { RefinementIsDescribed }
+{}
+
+/// Each bounded polytope that is not empty, with a column beside the first, has a normal fan.
+pub fn law_normal_fans_exist()
+    ensures { NormalFansExist }
+{}
+
+/// Each bounded polytope with 0 in its interior, with a column beside the first, has a face fan.
+pub fn law_face_fans_exist()
+    ensures { FaceFansExist }
 {}
 
 /// The normal fan of the sum of two bounded polytopes is the common refinement of their normal fans.
