@@ -27,6 +27,8 @@ pub mod Merged
 pub mod FanRays
 pub mod OrdersExist
 pub mod ExistingFans
+pub mod Greatest
+pub mod ExistingRefinements
 pub mod Renamed
 pub mod SameGraphs
 pub mod Sums

@@ -1,13 +1,13 @@
 -- What is built exists: of each shape there is a polytope, each polytope has a polar and a pyramid, each two have a
--- product and a sum; there are normal fans and face fans (Ziegler, Lectures on Polytopes, sections
+-- product and a sum; there are normal fans, face fans and common refinements (Ziegler, Lectures on Polytopes, sections
 -- 0, 1.1, 1.5, 2.3 and 7.1). So what new objects describe is never nothing.
 use Rattle.std.specs.Prelude.{ℕ, ◌+◌, ◌≡◌, ◌≤◌}
 use Rattle.pm_geom.specs.Things.{Orders}
-use Rattle.pm_object_type.specs.declared.object_type.ObjectType.TheVariants.{Polytope}
+use Rattle.pm_object_type.specs.declared.object_type.ObjectType.TheVariants.{Fan, Polytope}
 use Rattle.pm_types.specs.Right.{IsCentered}
 use Rattle.pm_types.specs.Things.{AreOrders, IsThing, Thing}
 use Rattle.pm_laws_things.specs.Built.{IsCross, IsCube, IsCyclic, IsPolar, IsProduct, IsPyramid, IsSimplex, IsSum}
-use Rattle.pm_laws_things.specs.FanLaws.{IsBounded, IsFaceFanOf, IsNormalFanOf}
+use Rattle.pm_laws_things.specs.FanLaws.{IsBounded, IsFaceFanOf, IsNormalFanOf, IsRefinementOfFans}
 use Rattle.pm_limits.specs.Limits.{most_columns, most_dimensions}
 
 -- there is a thing of which P holds, and there are orders of its rays and facets
@@ -22,6 +22,11 @@ pub record SomeThing (P : Thing → Type 0) : Type 0 where
 pub record IsSomePolytope (t : Thing) : Type 0 where
   pub thing : IsThing t
   pub of : t.of ≡ Polytope
+
+-- t is a fan
+pub record IsSomeFan (t : Thing) : Type 0 where
+  pub thing : IsThing t
+  pub of : t.of ≡ Fan
 
 -- ---- the laws
 -- there are cubes, simplices, cross-polytopes and cyclic polytopes in up to 32 dimensions
@@ -55,3 +60,7 @@ NormalFansExist = (t : Thing) → IsThing t → IsBounded t → 2 ≤ t.cols →
 -- with 0 in its interior it has a face fan
 abbrev pub FaceFansExist : Type 0
 FaceFansExist = (t : Thing) → IsThing t → IsBounded t → IsCentered t → 2 ≤ t.cols → SomeThing (IsFaceFanOf t)
+
+-- each two fans of as many columns have a common refinement
+abbrev pub RefinementsExist : Type 0
+RefinementsExist = (t s : Thing) → IsSomeFan t → IsSomeFan s → s.cols ≡ t.cols → SomeThing (IsRefinementOfFans t s)

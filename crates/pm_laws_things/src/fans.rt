@@ -1,7 +1,7 @@
 // Which fans the fans of polytopes are: what their values are right for. It has no code. It knows nothing of rules,
 // clients and sessions.
 
-ghost use Rattle.pm_laws_things.specs.Existence.{FaceFansExist, NormalFansExist};
+ghost use Rattle.pm_laws_things.specs.Existence.{FaceFansExist, NormalFansExist, RefinementsExist};
 ghost use Rattle.pm_laws_things.specs.FanExamples.{FansAreRead, RefinementsOfFansAreRead};
 ghost use Rattle.pm_laws_things.specs.FanLaws.{FaceFanIsDescribed, NormalFanIsDescribed, NormalFanOfSum, RefinementIsDescribed};
 
@@ -18,7 +18,7 @@ pub fn law_face_fan_is_described()
 {}
 
 /// The values of a common refinement are right for the common refinement of each two fans for which the values read
-/// are right.
+/// are right. Each two have one: `law_refinements_exist`.
 pub fn law_refinement_is_described()
     ensures { RefinementIsDescribed }
 {}
@@ -31,6 +31,11 @@ pub fn law_normal_fans_exist()
 /// Each bounded polytope with 0 in its interior, with a column beside the first, has a face fan.
 pub fn law_face_fans_exist()
     ensures { FaceFansExist }
+{}
+
+/// Each two fans of as many columns have a common refinement.
+pub fn law_refinements_exist()
+    ensures { RefinementsExist }
 {}
 
 /// The normal fan of the sum of two bounded polytopes is the common refinement of their normal fans.
