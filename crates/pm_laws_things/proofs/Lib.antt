@@ -29,6 +29,7 @@ pub mod OrdersExist
 pub mod ExistingFans
 pub mod Greatest
 pub mod ExistingRefinements
+pub mod ExistingFanExamples
 pub mod Renamed
 pub mod SameGraphs
 pub mod Sums

@@ -2,6 +2,7 @@
 // clients and sessions.
 
 ghost use Rattle.pm_laws_things.specs.Existence.{FaceFansExist, NormalFansExist, RefinementsExist};
+ghost use Rattle.pm_laws_things.specs.ExistenceExamples.{FanExistenceIsRead};
 ghost use Rattle.pm_laws_things.specs.FanExamples.{FansAreRead, RefinementsOfFansAreRead};
 ghost use Rattle.pm_laws_things.specs.FanLaws.{FaceFanIsDescribed, NormalFanIsDescribed, NormalFanOfSum, RefinementIsDescribed};
 
@@ -51,4 +52,9 @@ pub fn example_fans()
 /// The fan of the two rays of the line, refined by itself, and what is no refinement; which polytopes are bounded.
 pub fn example_refinements()
     ensures { RefinementsOfFansAreRead }
+{}
+
+/// Which normal fans, face fans and refinements there are, and which there are not.
+pub fn example_fan_existence()
+    ensures { FanExistenceIsRead }
 {}
