@@ -67,15 +67,16 @@ fn words_after_name<R: Env + AllocGlobal>(rt: &R) -> Result<Vec<String>, Status>
     }
 }
 
-// Puts the clients of these works at the end of the list, each in a box; or ends the program for want of memory.
+// Puts the clients of these works at the end of the list, each in a box; for want of memory it leaves the block of
+// this label, which is false then.
 macro_rules! box_each {
-    ($family:ident, $works:expr, $alloc:ident, $clients:ident) => {
+    ($block:lifetime, $family:ident, $works:expr, $alloc:ident, $clients:ident) => {
         for work in $works {
             let Ok(client) = Box::new($alloc, $family::new(work)) else {
-                return ExitCode::from(Status::OutOfMemory.number());
+                break $block false;
             };
             if $clients.push(client).is_err() {
-                return ExitCode::from(Status::OutOfMemory.number());
+                break $block false;
             }
         }
     };
@@ -83,38 +84,44 @@ macro_rules! box_each {
 
 // So with the standard clients of a family.
 macro_rules! box_all {
-    ($family:ident, $work:ident, $alloc:ident, $clients:ident) => {
-        box_each!($family, $work::every(), $alloc, $clients);
+    ($block:lifetime, $family:ident, $work:ident, $alloc:ident, $clients:ident) => {
+        box_each!($block, $family, $work::every(), $alloc, $clients);
     };
 }
 
 fn main(rt: HostRuntime) -> ExitCode {
     let alloc = rt.alloc();
     let mut clients: Vec<Box<dyn Client>> = Vec::new(alloc);
-    box_all!(HullClient, HullWork, alloc, clients);
-    box_all!(RedundancyClient, RedundancyWork, alloc, clients);
-    box_all!(ThinClient, ThinWork, alloc, clients);
-    box_all!(RowsClient, RowsWork, alloc, clients);
-    box_all!(DimClient, DimWork, alloc, clients);
-    box_all!(SizeClient, SizeWork, alloc, clients);
-    box_all!(TestClient, TestWork, alloc, clients);
-    box_all!(SetsClient, SetsWork, alloc, clients);
-    box_all!(FaceClient, FacesWork, alloc, clients);
-    box_all!(GraphClient, GraphWork, alloc, clients);
-    box_all!(LpClient, LpWork, alloc, clients);
-    box_all!(FanClient, FanWork, alloc, clients);
-    box_all!(PlaceClient, PlaceWork, alloc, clients);
-    box_all!(LiftClient, LiftWork, alloc, clients);
-    box_each!(HullClient, HullWork::wide(), alloc, clients);
-    box_each!(RedundancyClient, RedundancyWork::wide(), alloc, clients);
-    box_each!(ThinClient, ThinWork::wide(), alloc, clients);
-    box_each!(RowsClient, RowsWork::wide(), alloc, clients);
-    box_each!(DimClient, DimWork::wide(), alloc, clients);
-    box_each!(SetsClient, SetsWork::wide(), alloc, clients);
-    box_each!(LpClient, LpWork::wide(), alloc, clients);
-    box_each!(FanClient, FanWork::wide(), alloc, clients);
-    box_each!(PlaceClient, PlaceWork::wide(), alloc, clients);
-    box_each!(LiftClient, LiftWork::wide(), alloc, clients);
+    let are_boxed = 'boxing: {
+        box_all!('boxing, HullClient, HullWork, alloc, clients);
+        box_all!('boxing, RedundancyClient, RedundancyWork, alloc, clients);
+        box_all!('boxing, ThinClient, ThinWork, alloc, clients);
+        box_all!('boxing, RowsClient, RowsWork, alloc, clients);
+        box_all!('boxing, DimClient, DimWork, alloc, clients);
+        box_all!('boxing, SizeClient, SizeWork, alloc, clients);
+        box_all!('boxing, TestClient, TestWork, alloc, clients);
+        box_all!('boxing, SetsClient, SetsWork, alloc, clients);
+        box_all!('boxing, FaceClient, FacesWork, alloc, clients);
+        box_all!('boxing, GraphClient, GraphWork, alloc, clients);
+        box_all!('boxing, LpClient, LpWork, alloc, clients);
+        box_all!('boxing, FanClient, FanWork, alloc, clients);
+        box_all!('boxing, PlaceClient, PlaceWork, alloc, clients);
+        box_all!('boxing, LiftClient, LiftWork, alloc, clients);
+        box_each!('boxing, HullClient, HullWork::wide(), alloc, clients);
+        box_each!('boxing, RedundancyClient, RedundancyWork::wide(), alloc, clients);
+        box_each!('boxing, ThinClient, ThinWork::wide(), alloc, clients);
+        box_each!('boxing, RowsClient, RowsWork::wide(), alloc, clients);
+        box_each!('boxing, DimClient, DimWork::wide(), alloc, clients);
+        box_each!('boxing, SetsClient, SetsWork::wide(), alloc, clients);
+        box_each!('boxing, LpClient, LpWork::wide(), alloc, clients);
+        box_each!('boxing, FanClient, FanWork::wide(), alloc, clients);
+        box_each!('boxing, PlaceClient, PlaceWork::wide(), alloc, clients);
+        box_each!('boxing, LiftClient, LiftWork::wide(), alloc, clients);
+        true
+    };
+    if !are_boxed {
+        return ExitCode::from(Status::OutOfMemory.number());
+    }
     let mut source = StdSource::new(rt.stdin());
     let mut sink = StdSink::new(rt.stdout());
     let mut store = DirStore::new(&rt);
