@@ -1,0 +1,120 @@
+"""Values as the program writes them, and as Python has them."""
+
+import json
+import math
+from fractions import Fraction
+
+
+class Matrix(list):
+    """A list of rows, each a list of fractions, that is shown by rows.
+
+    It is a list and equal to one: `p.FACETS == [[0, 1], [1, -1]]`.
+    """
+
+    def __repr__(self):
+        if not self:
+            return "[]"
+        texts = [[str(it) for it in row] for row in self]
+        widths = [max(map(len, column)) for column in zip(*texts)]
+        return "\n".join(
+            "[" + " ".join(text.rjust(width) for text, width in zip(row, widths)) + "]" for row in texts
+        )
+
+    def _repr_html_(self):
+        rows = ("".join(f"<td>{it}</td>" for it in row) for row in self)
+        return "<table>" + "".join(f"<tr>{row}</tr>" for row in rows) + "</table>"
+
+
+# What Python has, from the program.
+
+
+def fraction_of(text):
+    """A fraction, or one of both infinities."""
+    return {"inf": math.inf, "-inf": -math.inf}.get(text) or Fraction(text)
+
+
+def without_columns(rows):
+    """Rows without the column count that may stand behind them."""
+    return rows[:-1] if rows and isinstance(rows[-1], dict) else rows
+
+
+READ = {
+    "matrix": lambda value: Matrix([Fraction(it) for it in row] for row in without_columns(value)),
+    "row": lambda value: [Fraction(it) for it in value],
+    "extended number": fraction_of,
+    "sets": without_columns,
+    "edges": without_columns,
+}
+
+
+def read(kind, text):
+    """The value of a kind that a reply shows."""
+    value = json.loads(text)
+    return READ[kind](value) if kind in READ else value
+
+
+def copied(value):
+    """A value of its own for each who asks."""
+    return type(value)(copied(it) for it in value) if isinstance(value, list) else value
+
+
+# What the program reads, from Python.
+
+
+def part_of(number, name):
+    """The numerator or denominator of a number, where it is an attribute or, as in Sage, a method."""
+    part = getattr(number, name)
+    return int(part() if callable(part) else part)
+
+
+def entry_of(number):
+    """A number as the program reads it: a text p or p/q."""
+    if isinstance(number, str):
+        return number
+    if isinstance(number, bool):
+        raise TypeError(f"{number} is a truth value, where a number is wanted")
+    if isinstance(number, float):
+        raise TypeError(
+            f"{number} is a float, which is seldom the number that is meant: give a Fraction, "
+            f"as Fraction({str(number)!r}), or a text, as '1/10'"
+        )
+    if not hasattr(number, "numerator") or not hasattr(number, "denominator"):
+        raise TypeError(f"{number!r} is no number that is taken: give int, Fraction, or a text as '1/2'")
+    top, bottom = part_of(number, "numerator"), part_of(number, "denominator")
+    return str(top) if bottom == 1 else f"{top}/{bottom}"
+
+
+def row_of(row):
+    """A row of numbers."""
+    if isinstance(row, (str, bytes)) or not hasattr(row, "__iter__"):
+        raise TypeError(f"{row!r} is no row of numbers")
+    return [entry_of(it) for it in row]
+
+
+def rows_of(rows):
+    """A matrix; one without rows may be told its columns, as [{"cols": 3}]."""
+    if isinstance(rows, (str, bytes)) or not hasattr(rows, "__iter__"):
+        raise TypeError(f"{rows!r} is no list of rows")
+    return [it if isinstance(it, dict) else row_of(it) for it in rows]
+
+
+def plain(value):
+    """Lists of whole numbers, whatever they come as: tuples, sets, ranges, numbers of other packages."""
+    if isinstance(value, (bool, dict)):
+        return value
+    if hasattr(value, "__iter__") and not isinstance(value, (str, bytes)):
+        return [plain(it) for it in (sorted(value) if isinstance(value, (set, frozenset)) else value)]
+    if isinstance(value, float):
+        raise TypeError(f"{value} is a float, where a whole number is wanted")
+    return int(value) if hasattr(value, "__index__") else value
+
+
+def written(kind, value):
+    """A value of a kind as the text that `take` has."""
+    if kind == "matrix":
+        value = rows_of(value)
+    elif kind == "row":
+        value = row_of(value)
+    elif kind != "extended number":
+        value = plain(value)
+    return json.dumps(value, separators=(",", ":"))
