@@ -115,6 +115,7 @@ class Session:
             (self._folder / BOOK).write_bytes(self.book)
             words = ["--rules", BOOK]
         self._process = Process(self.program or finding.program(), words, self._folder)
+        self._ender = weakref.finalize(self, self._process.close)
 
     def close(self):
         """Ends the program and removes its folder; objects that are asked later are made anew."""
@@ -128,6 +129,8 @@ class Session:
 
     def _end(self):
         """The process is gone, and so are its objects."""
+        if self._process is not None:
+            self._ender.detach()
         self._process = None
         self._live.clear()
         self._gone.clear()
@@ -136,6 +139,7 @@ class Session:
         """In the child of a fork: the process is the parent's, and so is the folder."""
         if self._process is not None:
             self._process.leave()
+            self._ender.detach()
         if self._folder is not None:
             self._cleaner.detach()
         self._forget()

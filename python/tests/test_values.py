@@ -4,6 +4,7 @@ import importlib.machinery
 import importlib.util
 import json
 import math
+import os
 import unittest
 from decimal import Decimal
 from fractions import Fraction
@@ -162,8 +163,6 @@ class Given(unittest.TestCase):
 
 class Finding(unittest.TestCase):
     def test_the_program_of_the_environment(self):
-        import os
-
         was = os.environ.pop(finding.VARIABLE)
         try:
             os.environ[finding.VARIABLE] = "/no/such/program"
