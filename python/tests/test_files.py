@@ -1,0 +1,152 @@
+"""Files: saved and loaded, of other programs, and of none."""
+
+import base64
+import hashlib
+import json
+import os
+import shutil
+import subprocess
+import sys
+import tempfile
+import unittest
+import zipfile
+from pathlib import Path
+from unittest import mock
+
+import build_backend
+import nevolimush
+from nevolimush import Cone, Fan, NoChain, Polytope, Session, cube, finding, load
+from test_objects import WIDE_POINTS
+
+PYTHON = Path(__file__).resolve().parents[1]
+
+# The unit square as other programs write it.
+FORMS = {
+    "rows.txt": "0 0\n1 0\n0 1\n1 1\n0.5, 1/2\n",
+    "square.ine": "H-representation\nbegin\n4 3 rational\n0 1 0\n0 0 1\n1 -1 0\n1 0 -1\nend\n",
+    "square.ext": "V-representation\nbegin\n4 3 rational\n1 0 0\n1 1 0\n1 0 1\n1 1 1\nend\n",
+    "square.in": "amb_space 2\nvertices 4\n0 0 1\n1 0 1\n0 1 1\n1 1 1\n",
+    "square.poly": '{"_type":"polytope::Polytope<Rational>","POINTS":[["1","0","0"],{"0":"1","1":"1"},["1","0","1"],["1","1","1"]],"N_VERTICES":4}',
+}
+
+
+class Files(unittest.TestCase):
+    def setUp(self):
+        self.folder = Path(tempfile.mkdtemp())
+        self.addCleanup(shutil.rmtree, self.folder)
+
+    def write(self, name, text):
+        path = self.folder / name
+        path.write_text(text)
+        return path
+
+    def test_what_is_saved_is_loaded(self):
+        path = self.folder / "a name with blanks.json"
+        for made, name in ((cube(3), "FACETS"), (Cone(rays=[(1, 0), (1, 1)]), "LINEAR_SPAN"), (cube(2).normal_fan(), "FAN_DIM")):
+            value = getattr(made, name)
+            made.save(path)
+            again = load(path)
+            self.assertIs(type(again), type(made))
+            self.assertEqual((again.origin(name), getattr(again, name)), ("stored", value))
+            self.assertEqual((again.notes, again.believed), ([], []))
+
+    def test_what_failed_is_loaded_too(self):
+        path = self.folder / "p.json"
+        p = Polytope(points=WIDE_POINTS, session=Session(rules=None))
+        with self.assertRaises(NoChain):
+            p.FACETS
+        p.save(path)
+        again = Polytope.from_file(path, Session(rules=None))
+        with self.assertRaises(NoChain) as caught:
+            again.FACETS
+        # of a mark that came with a file the number alone is known
+        shown = [(it.label, it.evidence[0].kind, it.evidence[0].shown) for it in caught.exception.failures]
+        self.assertIn(("dd_facets", "E1", None), shown)
+
+    def test_linear_programs_are_loaded(self):
+        path = self.folder / "p.json"
+        p = cube(2)
+        p.lp((0, 1, 2)), p.lp((1, 1, 1))
+        p.save(path)
+        again = load(path)
+        self.assertEqual([it.LINEAR_OBJECTIVE for it in again.programs.values()], [[0, 1, 2], [1, 1, 1]])
+        self.assertEqual(again.programs["lp1"].MAXIMAL_VALUE, 3)
+        lp = again.programs["lp0"]
+        others = [again.lp((0, k, 0)).MAXIMAL_VALUE for k in range(3)]
+        self.assertEqual(others, [0, 1, 2])
+        with self.assertRaisesRegex(RuntimeError, "let its linear program lp0 go"):
+            lp.MAXIMAL_VALUE
+
+    def test_the_forms_of_other_programs(self):
+        for name, text in FORMS.items():
+            p = Polytope.from_file(self.write(name, text))
+            self.assertEqual(sorted(p.VERTICES), [[1, 0, 0], [1, 0, 1], [1, 1, 0], [1, 1, 1]], name)
+            self.assertEqual(p.F_VECTOR, [4, 4], name)
+            self.assertEqual(p.believed, ["N_VERTICES"] if name == "square.poly" else [], name)
+        self.assertEqual(Polytope.from_file(self.folder / "rows.txt").notes, ["line 1: 5 points with 2 coordinates each"])
+
+    def test_cones_and_fans_of_other_programs(self):
+        cone = self.write("c.in", "amb_space 2\ncone 3\n1 0\n1 1\n0 1\n")
+        self.assertEqual(Cone.from_file(cone).N_RAYS, 2)
+        fan = {"_type": "fan::PolyhedralFan<Rational>", "RAYS": [["1", "0"], ["0", "1"]], "MAXIMAL_CONES": [[0], [1], {"cols": 2}]}
+        self.assertEqual(Fan.from_file(self.write("f.fan", json.dumps(fan))).FAN_DIM, 1)
+        with self.assertRaisesRegex(TypeError, "holds a Cone, and no Polytope"):
+            Polytope.from_file(cone)
+
+    def test_files_that_are_none(self):
+        with self.assertRaisesRegex(nevolimush.BadForm, "bad.txt: .*no fraction|bad.txt: .*known"):
+            load(self.write("bad.txt", "1 2 three\n"))
+        with self.assertRaises(nevolimush.BadForm):
+            load(self.write("empty.txt", ""))
+        with self.assertRaises(FileNotFoundError):
+            load(self.folder / "nowhere.json")
+        saved = self.write("s.json", '{"_type":"polytope::Polytope<Rational>","_profile":2,"_computed":["FACETS"],"_excluded":[]}')
+        with self.assertRaises(nevolimush.BadFile) as caught:
+            load(saved)
+        self.assertEqual(caught.exception.reason, "BadProfile _computed")
+
+    def test_what_is_missing_is_said(self):
+        rows = self.write("rows.txt", FORMS["rows.txt"])
+        with mock.patch.object(finding, "bridges", lambda: None):
+            with self.assertRaisesRegex(nevolimush.NoBridge, "the folder bridge/ of the repository"):
+                load(rows)
+            cube(2).save(self.folder / "c.json")
+            self.assertEqual(load(self.folder / "c.json").N_VERTICES, 4)
+
+
+class Installed(unittest.TestCase):
+    def test_it_stands_alone(self):
+        """What an installer unpacks runs by the program that is named."""
+        with tempfile.TemporaryDirectory() as folder:
+            name = build_backend.build_wheel(folder)
+            self.assertEqual(name, "nevolimush-0.1-py3-none-any.whl")
+            zipfile.ZipFile(Path(folder) / name).extractall(folder)
+            script = "from nevolimush import cube, finding\nprint(finding.__file__, cube(3).F_VECTOR, finding.repository())"
+            run = subprocess.run([sys.executable, "-B", "-c", script], capture_output=True, text=True, cwd=folder)
+            self.assertEqual((run.stdout, run.stderr), (f"{Path(folder).resolve()}/nevolimush/finding.py [8, 12, 6] None\n", ""))
+
+    def test_the_program_is_found_on_the_path(self):
+        program = finding.program()
+        with tempfile.TemporaryDirectory() as folder:
+            (Path(folder) / finding.COMMAND).symlink_to(program)
+            with mock.patch.dict("os.environ", {"PATH": folder}), mock.patch.object(finding, "repository", lambda: None):
+                del os.environ[finding.VARIABLE]
+                self.assertEqual(finding.program(), program)
+            with mock.patch.dict("os.environ", {"PATH": ""}), mock.patch.object(finding, "repository", lambda: None):
+                del os.environ[finding.VARIABLE]
+                with self.assertRaisesRegex(nevolimush.NoProgram, "nevolimush-program"):
+                    finding.program()
+
+    def test_a_wheel_has_all_files_and_their_hashes(self):
+        with tempfile.TemporaryDirectory() as folder:
+            wheel = zipfile.ZipFile(Path(folder) / build_backend.build_wheel(folder))
+            record = wheel.read("nevolimush-0.1.dist-info/RECORD").decode().splitlines()
+            self.assertEqual([it.split(",")[0] for it in record], wheel.namelist())
+            for line in record[:-1]:
+                name, digest, size = line.split(",")
+                data = wheel.read(name)
+                found = base64.urlsafe_b64encode(hashlib.sha256(data).digest()).decode().rstrip("=")
+                self.assertEqual((digest, int(size)), (f"sha256={found}", len(data)))
+        ours = {f"nevolimush/{it.name}" for it in (PYTHON / "nevolimush").iterdir() if it.is_file()}
+        self.assertLessEqual(ours, {it.split(",")[0] for it in record})
+        self.assertIn(f'version = "{build_backend.VERSION}"', (PYTHON / "pyproject.toml").read_text())
