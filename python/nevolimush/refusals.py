@@ -91,7 +91,7 @@ class NoChain(Refused):
         self.failures, self.held, self.advice = [], {}, []
 
     def __str__(self):
-        computed = [name for name, origin in self.held.items() if origin == "computed"]
+        computed = [name for name, origin in self.held.items() if origin != "given"]
         told = [f"{super().__str__()}: {self.asked}".removesuffix(": ")]
         told += [str(it) for it in self.failures]
         if computed:

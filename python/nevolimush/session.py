@@ -69,7 +69,7 @@ class Session:
 
     def __init__(self, rules="wide", program=None):
         self.book, self.is_wide = self._text_of(rules), rules == "wide"
-        self.program = program
+        self.program = None if program is None else Path(program).resolve()
         self._count = 0
         self._tokens = []
         self._forget()
@@ -146,6 +146,8 @@ class Session:
 
     def _ask(self, line):
         """The lines of the reply to one command of docs/manual.md, refusals too."""
+        if "\n" in line or "\r" in line:
+            raise ValueError("a name or a text with an end of line")
         if len(line.encode()) > MOST_LINE:
             return ["no 15 LineTooLong"]
         self._start()

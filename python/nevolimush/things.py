@@ -5,6 +5,7 @@ import json
 import re
 from dataclasses import dataclass
 from itertools import count
+from operator import index
 
 from . import files, shown
 from .refusals import Evidence, Failure, NoChain, Refused, advice, is_refused, is_tried, refusal_of
@@ -38,7 +39,8 @@ def property_of(name, item):
 
 def with_properties(cls):
     """A class with the properties of its type."""
-    cls._properties = properties_of(cls.__name__)
+    cls.type_name = cls.__name__
+    cls._properties = properties_of(cls.type_name)
     for name, item in cls._properties.items():
         setattr(cls, name, property_of(name, item))
     return cls
@@ -91,9 +93,9 @@ class Asked:
 
     def __getattr__(self, name):
         """What is said of a name that there is not."""
-        told = f"a {type(self).__name__} has no {name!r}"
+        told = f"a {self.type_name} has no {name!r}"
         if name.isupper():
-            same = [it.names[type(self).__name__] for it in self._properties.values() if name in it.names.values()]
+            same = [it.names[self.type_name] for it in self._properties.values() if name in it.names.values()]
             near = same or difflib.get_close_matches(name, self._properties, 1, 0.5)
             told += f": is {near[0]} meant?" if near else ""
         raise AttributeError(told)
@@ -115,7 +117,7 @@ class Thing(Asked):
 
     def __init__(self, *, session=None, **given):
         self._begin(session or current())
-        steps = [Step(f"new {HERE} {type(self).__name__}")]
+        steps = [Step(f"new {HERE} {self.type_name}")]
         for name, value in self._given(given):
             self._told.append(name)
             steps.append(Step(f"take {HERE} {name} {written(self._properties[name].kind, value)}"))
@@ -136,7 +138,7 @@ class Thing(Asked):
             if name not in self._properties:
                 near = difflib.get_close_matches(word, [*self._words, *self._properties], 1, 0.5)
                 told = f": is {near[0]} meant?" if near else ""
-                raise TypeError(f"a {type(self).__name__} takes no {word!r}{told}")
+                raise TypeError(f"a {self.type_name} takes no {word!r}{told}")
             if name in found:
                 raise TypeError(f"{name} is given twice")
             found[name] = value
@@ -281,8 +283,9 @@ class Thing(Asked):
         """
         text = files.read(path)
         found = CLASSES[text.type_name]
-        if not issubclass(found, cls):
-            raise TypeError(f"{path} holds a {found.__name__}, and no {cls.__name__}")
+        if not issubclass(found, cls) and not issubclass(cls, found):
+            raise TypeError(f"{path} holds a {found.type_name}, and no {cls.__name__}")
+        found = cls if issubclass(cls, found) else found
         thing = found.__new__(found)
         thing._begin(session or current())
         lines = thing._make([Step(f"load {HERE} {FILE}", text.data)])
@@ -324,6 +327,9 @@ class Thing(Asked):
         session._put(thing, name)
         thing._keep()
         return thing
+
+    def __reduce_ex__(self, protocol):
+        raise TypeError("an object of a session is neither copied nor pickled: save it to a file, and load that")
 
     def __repr__(self):
         known = ", ".join(dict.fromkeys([*self._told, *self._values]))
@@ -421,15 +427,18 @@ class Polytope(Thing):
     @property
     def programs(self):
         """The linear programs that the polytope has now, by their names: those of a file too."""
+        return {it: LinearProgram._of(self, it) for it in self._names_of_programs()}
+
+    def _names_of_programs(self):
         lines = self._say(f"show {HERE}", changes=False)
         self._subs = [it.split(" ")[1] for it in lines if it.startswith("program: ")]
-        return {it: LinearProgram._of(self, it) for it in self._subs}
+        return self._subs
 
     def _new_sub(self, name=None):
         """A linear program more, of this name or a new one, which holds no objective yet."""
         if self._spare and name is None:
             return self._spare.pop()
-        self._used.update(self.programs)
+        self._used.update(self._names_of_programs())
         if len(self._subs) == MOST_PROGRAMS:
             self._without_programs()
         name = name or next(it for it in map("lp{}".format, count()) if it not in self._used)
@@ -494,11 +503,17 @@ class LinearProgram(Asked):
         """The linear program of a name, which the polytope holds."""
         found = cls.__new__(cls)
         found._begin(polytope, name)
+        objective = found.lookup("LINEAR_OBJECTIVE")
+        if objective is not None:
+            found._objective = written("row", objective)
+            found._values["LINEAR_OBJECTIVE"] = objective
         return found
 
     def _attach(self):
         """The polytope holds the program."""
         self._name = self._polytope._new_sub(self._name)
+        if self._objective is None:
+            return
         try:
             self._polytope._say(f"take {self._reference()} LINEAR_OBJECTIVE {self._objective}")
         except Refused:
@@ -512,8 +527,6 @@ class LinearProgram(Asked):
         """The reply to a question, for which the polytope holds the program."""
         with self._session._lock:
             if self._name not in self._polytope._subs:
-                if self._objective is None:
-                    raise RuntimeError(f"the polytope let its linear program {self._name} go for others: take lp() anew")
                 self._attach()
             return self._polytope._say(line, f"{self._name}.{asked}", changes)
 
@@ -527,21 +540,26 @@ class LinearProgram(Asked):
 CLASSES = {"Polytope": Polytope, "Cone": Cone, "Fan": Fan}
 
 
+def standard(session, words):
+    """A polytope that `make` makes."""
+    return Polytope._made(session or current(), [Step(f"make {HERE} {words}")])
+
+
 def cube(dimension, session=None):
     """All points with coordinates from -1 to 1."""
-    return Polytope._made(session or current(), [Step(f"make {HERE} cube {int(dimension)}")])
+    return standard(session, f"cube {index(dimension)}")
 
 
 def simplex(dimension, session=None):
     """The simplex of 0 and the unit vectors."""
-    return Polytope._made(session or current(), [Step(f"make {HERE} simplex {int(dimension)}")])
+    return standard(session, f"simplex {index(dimension)}")
 
 
 def cross(dimension, session=None):
     """The convex hull of the unit vectors and their opposites."""
-    return Polytope._made(session or current(), [Step(f"make {HERE} cross {int(dimension)}")])
+    return standard(session, f"cross {index(dimension)}")
 
 
 def cyclic(dimension, count, session=None):
     """That of so many points of the moment curve (t, t^2, ..)."""
-    return Polytope._made(session or current(), [Step(f"make {HERE} cyclic {int(dimension)} {int(count)}")])
+    return standard(session, f"cyclic {index(dimension)} {index(count)}")

@@ -74,8 +74,9 @@ class Files(unittest.TestCase):
         lp = again.programs["lp0"]
         others = [again.lp((0, k, 0)).MAXIMAL_VALUE for k in range(3)]
         self.assertEqual(others, [0, 1, 2])
-        with self.assertRaisesRegex(RuntimeError, "let its linear program lp0 go"):
-            lp.MAXIMAL_VALUE
+        self.assertNotIn("lp0", again.programs)
+        self.assertEqual((lp.MAXIMAL_VALUE, lp.MINIMAL_VALUE), (3, -3))
+        self.assertIn("lp0", again.programs)
 
     def test_the_forms_of_other_programs(self):
         for name, text in FORMS.items():

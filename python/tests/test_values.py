@@ -1,10 +1,12 @@
 """Numbers and values, the table, and what the constructors take: without and with the program."""
 
+import copy
 import importlib.machinery
 import importlib.util
 import json
 import math
 import os
+import pickle
 import unittest
 from decimal import Decimal
 from fractions import Fraction
@@ -155,6 +157,38 @@ class Given(unittest.TestCase):
             with self.assertRaises(nevolimush.BadValue) as caught:
                 Polytope(**given)
             self.assertEqual((caught.exception.number, caught.exception.reason), (6, reason))
+
+    def test_names_with_an_end_of_line(self):
+        p = Polytope(points=[(1, 0)])
+        for ask in (p.lookup, p.origin, p.ensure, p.explain, p.evidence, p.disable):
+            with self.assertRaisesRegex(ValueError, "end of line"):
+                ask("FACETS\nmake o9 cube 2")
+        for ask in (p.lookup, p.origin, p.ensure, p.explain):
+            with self.assertRaises(nevolimush.UnknownProperty):
+                ask("RAYS")
+        for ask in (p.evidence, p.disable):
+            with self.assertRaises(nevolimush.UnknownRule):
+                ask("no_such_rule")
+        self.assertEqual(p.history, [])
+
+    def test_dimensions_are_whole(self):
+        with self.assertRaises(TypeError):
+            nevolimush.cube(2.5)
+        self.assertEqual(nevolimush.cube(True + 1).N_VERTICES, 4)
+
+    def test_a_class_of_ones_own(self):
+        class Mine(Polytope):
+            @property
+            def double(self):
+                return 2 * self.N_VERTICES
+
+        self.assertEqual(Mine(points=[(1, 0), (1, 1)]).double, 4)
+
+    def test_no_copies(self):
+        p = Polytope(points=[(1, 0)])
+        for make in (copy.copy, copy.deepcopy, pickle.dumps):
+            with self.assertRaisesRegex(TypeError, "save it"):
+                make(p)
 
     def test_a_line_that_is_too_long(self):
         with self.assertRaises(nevolimush.LineTooLong):
