@@ -90,11 +90,9 @@ class Process:
         self.run.stdout.close()
 
     def leave(self):
-        """In the child of a fork: the pipes are the parent's, and so is the program."""
-        nothing = os.open(os.devnull, os.O_RDWR)
+        """In the child of a fork: the program is the parent's, and a thread that is not here may have held a pipe's lock."""
         for pipe in (self.run.stdin, self.run.stdout):
-            os.dup2(nothing, pipe.fileno(), inheritable=False)
-        os.close(nothing)
+            pipe.raw.close()
         self.run.returncode = 0
 
     def close(self):

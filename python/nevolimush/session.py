@@ -1,6 +1,5 @@
 """A session: the program as a process, and which objects it holds."""
 
-import atexit
 import os
 import shutil
 import tempfile
@@ -218,16 +217,15 @@ class Session:
 
     def _ready(self, thing, size=0):
         """The object is held by the process: it is made anew where it is not."""
-        steps = thing._steps or []
-        self._leave_room(size + (0 if self._holds(thing) else sum(len(it.line) + 512 for it in steps)))
+        self._leave_room(size + (0 if self._holds(thing) else sum(len(it.line) + 512 for it in thing._steps or [])))
         if self._holds(thing):
             return
-        if not steps:
+        if not thing._steps:
             raise RuntimeError("this object is too large to be saved, so it cannot be made anew: make it again")
         name = self._new_name()
-        for step in steps:
+        for step in thing._steps:
             self._repeat(step, name)
-        thing._before = steps[0]
+        thing._before = thing._steps[0]
         self._put(thing, name)
 
     def _repeat(self, step, name):
@@ -263,11 +261,5 @@ def _leave_forks():
         session._leave_fork()
 
 
-def _close_all():
-    for session in list(ALL):
-        session.close()
-
-
-atexit.register(_close_all)
 if hasattr(os, "register_at_fork"):
     os.register_at_fork(after_in_child=_leave_forks)

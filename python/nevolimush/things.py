@@ -311,12 +311,11 @@ class Thing(Asked):
 
     @staticmethod
     def _refusal_of_built(lines, things):
-        """The exception of a refusal; of one for want of a chain, with what failed of each object."""
+        """The exception of a refusal; of one for want of a chain, of the last object of which a rule failed."""
         found = things[0]._refusal(lines)
         if isinstance(found, NoChain):
             for it in things[1:]:
-                found.failures = found.failures + [one for one in it.failures if one not in found.failures]
-            found.advice = list(advice(found.failures, found.held, things[0]._session.is_wide))
+                found = it._refusal(lines) if it.failures else found
         return found
 
     @classmethod

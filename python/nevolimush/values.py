@@ -99,11 +99,11 @@ def rows_of(rows):
 
 
 def plain(value):
-    """Lists of whole numbers, whatever they come as: tuples, sets, ranges, numbers of other packages."""
+    """Lists of whole numbers, whatever they come as: tuples, sets, ranges, numbers of other packages; in any order."""
     if isinstance(value, (bool, dict)):
         return value
     if hasattr(value, "__iter__") and not isinstance(value, (str, bytes)):
-        return [plain(it) for it in (sorted(value) if isinstance(value, (set, frozenset)) else value)]
+        return [plain(it) for it in value]
     if isinstance(value, float):
         raise TypeError(f"{value} is a float, where a whole number is wanted")
     return int(value) if hasattr(value, "__index__") else value

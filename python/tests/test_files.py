@@ -50,6 +50,14 @@ class Files(unittest.TestCase):
             self.assertEqual((again.origin(name), getattr(again, name)), ("stored", value))
             self.assertEqual((again.notes, again.believed), ([], []))
 
+    def test_a_class_of_ones_own(self):
+        class Mine(Polytope):
+            pass
+
+        path = self.folder / "c.json"
+        cube(2).save(path)
+        self.assertIs(type(Mine.from_file(path)), Mine)
+
     def test_what_failed_is_loaded_too(self):
         path = self.folder / "p.json"
         p = Polytope(points=WIDE_POINTS, session=Session(rules=None))
@@ -93,6 +101,10 @@ class Files(unittest.TestCase):
         self.assertEqual(Fan.from_file(self.write("f.fan", json.dumps(fan))).FAN_DIM, 1)
         with self.assertRaisesRegex(TypeError, "holds a Cone, and no Polytope"):
             Polytope.from_file(cone)
+
+    def test_names_that_are_read_over(self):
+        path = self.write("p.json", '{"_type":"polytope::Polytope<Rational>","_profile":2,"_computed":[],"_excluded":[],"POINTS":[["1","0"]],"LABELS":[]}')
+        self.assertEqual(load(path).notes, ["read over: LABELS"])
 
     def test_files_that_are_none(self):
         with self.assertRaisesRegex(nevolimush.BadForm, "bad.txt: .*no fraction|bad.txt: .*known"):

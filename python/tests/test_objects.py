@@ -8,7 +8,7 @@ from random import Random
 
 import brute
 from brute import Thing
-from nevolimush import Cone, Fan, Matrix, NoChain, NotFit, Polytope, Session, cross, cube, cyclic, simplex
+from nevolimush import BadValue, Cone, Fan, Matrix, NoChain, NotFit, Polytope, Session, cross, cube, cyclic, simplex
 from nevolimush.table import PROPERTIES
 
 # What a few tests of their own are for.
@@ -227,9 +227,24 @@ class Programs(Compared):
     def test_an_objective_of_another_length(self):
         p = cube(2)
         for _ in range(6):
-            with self.assertRaisesRegex(Exception, "columns"):
+            with self.assertRaisesRegex(BadValue, "columns"):
                 p.lp((0, 1))
         self.assertEqual(p.lp((0, 1, 1)).MAXIMAL_VALUE, 2)
+        self.assertEqual(len(p.programs), 1)
+
+    def test_the_first_of_five(self):
+        p = cube(2)
+        programs = [p.lp((k, 1, 1)) for k in range(5)]
+        self.assertEqual([it.MAXIMAL_VALUE for it in programs], [2, 3, 4, 5, 6])
+
+    def test_a_refused_objective_among_five(self):
+        """The name that a refused objective leaves is not that of a program that was let go."""
+        p = cube(2)
+        programs = [p.lp((k, 1, 1)) for k in range(7)]
+        with self.assertRaisesRegex(BadValue, "columns"):
+            p.lp((0, 1))
+        self.assertEqual(programs[0].MINIMAL_VALUE, -2)
+        self.assertEqual(p.lp((9, 0, 0)).MINIMAL_VALUE, 9)
 
 
 class Why(Compared):
@@ -251,6 +266,35 @@ class Why(Compared):
         with self.assertRaises(NoChain):
             p.FACETS
         self.assertEqual(p.N_VERTICES, 5)
+
+    def test_of_the_second_of_two_objects(self):
+        with Session(rules=None):
+            c, r = cube(3), Polytope(points=WIDE_POINTS)
+            r.disable("thin_points_lp")
+            with self.assertRaises(NoChain) as caught:
+                c.minkowski(r)
+            self.assertEqual([it.label for it in caught.exception.failures], ["dd_facets", "bb_facets"])
+            self.assertNotIn("FACETS", caught.exception.held)
+            self.assertEqual(c.minkowski(cross(3)).N_FACETS, 26)
+
+    def test_of_two_linear_programs(self):
+        """The same rules fail for both; the evidence of each is its own."""
+        big = 2**120
+        with Session(rules=None):
+            p = Polytope(inequalities=[(big, -1), (0, 1)])
+            programs = [p.lp((0, big)), p.lp((0, 2 * big))]
+            for lp in programs:
+                with self.assertRaises(NoChain):
+                    lp.MAXIMAL_VALUE
+            with self.assertRaises(NoChain) as caught:
+                programs[0].MAXIMAL_VALUE
+            names = {(it.label, it.program) for it in caught.exception.failures}
+            self.assertLessEqual({("lp_max_v", "lp0"), ("lp_max_v", "lp1"), ("lp_max_rows", "lp1")}, names)
+            for it in caught.exception.failures:
+                self.assertEqual([one.program for one in it.evidence], [it.program])
+            self.assertEqual([it.program for it in p.evidence("lp_max_v")], ["lp0", "lp1"])
+            self.assertIn("failed for the program lp1 by E4", str(caught.exception))
+            self.assertEqual(p.lp((0, 1)).MAXIMAL_VALUE, big)
 
     def test_the_wide_rules_find_it(self):
         self.assertEqual(len(Polytope(points=WIDE_POINTS).FACETS), 6)

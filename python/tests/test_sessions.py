@@ -84,15 +84,25 @@ class Many(unittest.TestCase):
         with Few(rules=None):
             p = Polytope(points=[(1, 0), (1, 1), (1, 2)])
             p.disable("dd_facets")
-            lp = p.lp((0, 1))
+            q, lp = cube(2), cube(1).lp((0, 2))
             self.assertEqual(lp.MAXIMAL_VALUE, 2)
             others = [cube(2) for _ in range(5)]
             self.assertNotIn(p._name, current()._live)
-            self.assertEqual((lp.MINIMAL_VALUE, lp.MAXIMAL_FACE), (0, [p.VERTICES.index([1, 2])]))
+            self.assertNotIn(lp._polytope._name, current()._live)
+            self.assertEqual((lp.MINIMAL_VALUE, lp.MAXIMAL_FACE), (-2, [1]))
             p.FACETS
-            self.assertIn("bb_facets", " ".join(p.history))
-            self.assertNotIn("dd_facets ", " ".join(p.history))
-            self.assertEqual(len(others), 5)
+            self.assertEqual(rounds(p), ["round 45: bb_facets -> done"])
+            self.assertEqual((len(others), q.N_VERTICES), (5, 4))
+
+    def test_that_used_longest_ago_is_let_go(self):
+        with Few() as where:
+            p, q = cube(2), cube(3)
+            others = []
+            for _ in range(9):
+                others.append(cube(1))
+                p.held
+                self.assertIn(p._name, where._live)
+            self.assertNotIn(q._name, where._live)
 
     def test_new_objects_of_objects_that_were_let_go(self):
         with Few():
@@ -120,6 +130,30 @@ class Many(unittest.TestCase):
                 numbers.add(current()._process.run.pid)
                 self.assertLessEqual(current()._process.sent, Few.most_bytes)
             self.assertGreater(len(numbers), 3)
+
+    def test_a_new_process_loads_what_was_computed(self):
+        with Few() as where:
+            p = cube(3)
+            p.FACETS
+            old, ender = where._process, where._ender
+            self.assertEqual(p.origin("FACETS"), "computed")
+            where.most_bytes = old.sent + where.spare_bytes
+            self.assertEqual(p.origin("FACETS"), "stored")
+            self.assertIsNot(where._process, old)
+            self.assertFalse(ender.alive)
+
+    def test_a_new_process_between_two_objects(self):
+        """One of two objects is there, and the other one is too much: both are there afterwards."""
+        with Few() as where:
+            b = simplex(2)
+            others = [cube(1) for _ in range(5)]
+            a = cube(2)
+            self.assertNotIn(b._name, where._live)
+            old = where._process
+            where.most_bytes = old.sent + where.spare_bytes + 100
+            self.assertEqual(a.product(b).N_VERTICES, 12)
+            self.assertIsNot(where._process, old)
+            self.assertEqual(len(others), 5)
 
     def test_the_bound_is_that_of_the_program(self):
         """A process that is sent as much as it reads is ended by itself, with status 6."""
@@ -157,6 +191,17 @@ class Killed(unittest.TestCase):
                 self.assertEqual((values(p), values(q), values(o), lp.MAXIMAL_FACE), before[:4])
                 self.assertEqual(q.origin("FACETS"), "computed")
 
+    def test_what_a_new_object_found_of_the_old_ones_stays(self):
+        with Session() as where:
+            a, b = cube(2), cross(2)
+            a.product(b)
+            before = set(a.held), set(b.held), rounds(a), rounds(b)
+            self.assertTrue(before[2])
+            os.kill(where._process.run.pid, signal.SIGKILL)
+            with self.assertRaises(Ended):
+                a.held
+            self.assertEqual((set(a.held), set(b.held), rounds(a), rounds(b)), before)
+
     def test_within_a_question(self):
         """The process is killed while it computes, and the answer comes from the next one."""
         with Session() as where:
@@ -179,6 +224,7 @@ class Killed(unittest.TestCase):
         """Ctrl-C in a question: the next question gets its own reply."""
         with Session() as where:
             p = simplex(2)
+            old = where._process
 
             def interrupted():
                 where._process.run.stdout.readline()
@@ -188,6 +234,7 @@ class Killed(unittest.TestCase):
             with self.assertRaises(KeyboardInterrupt):
                 p.F_VECTOR
             self.assertEqual((p.N_VERTICES, p.F_VECTOR), (3, [3, 3]))
+            self.assertEqual(old.run.returncode, -9)
 
 
 class Two(unittest.TestCase):
@@ -269,13 +316,29 @@ class Forked(unittest.TestCase):
             self.assertTrue(is_right(p))
             self.assertEqual(where._process.run.pid, parent)
 
+    def test_a_child_does_not_hold_the_parents_process(self):
+        """The parent's program ends at the end of its input, though the child lives on."""
+        read, write = os.pipe()
+        with Session() as where:
+            cube(2)
+            run = where._process.run
+            pid = os.fork()
+            if pid == 0:
+                os.close(write)
+                os.read(read, 1)
+                os._exit(0)
+        os.close(write)
+        os.waitpid(pid, 0)
+        os.close(read)
+        self.assertEqual(run.returncode, 1)
+
     def test_a_child_that_ends_leaves_the_parents_folder(self):
         script = (
             "import os\nfrom nevolimush import cube, current\nc = cube(2)\n"
             "if os.fork() == 0:\n    assert c.N_FACETS == 4\n    raise SystemExit\n"
             "os.wait()\nc.save(os.devnull)\nprint(c.N_VERTICES, current()._folder)\n"
         )
-        run = subprocess.run([sys.executable, "-B", "-c", script], capture_output=True, text=True, env={**os.environ, "PYTHONPATH": str(PYTHON)})
+        run = subprocess.run([sys.executable, "-B", "-W", "always", "-c", script], capture_output=True, text=True, env={**os.environ, "PYTHONPATH": str(PYTHON)})
         self.assertEqual(run.stderr, "")
         count, folder = run.stdout.split()
         self.assertEqual(count, "4")

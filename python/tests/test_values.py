@@ -99,7 +99,9 @@ class Numbers(unittest.TestCase):
         self.assertIn("<tr><td>1</td><td>-1/2</td></tr>", values.read("matrix", '[["1","-1/2"]]')._repr_html_())
 
     def test_sets_come_as_anything(self):
-        self.assertEqual(json.loads(values.written("sets", ({2, 0}, range(2)))), [[0, 2], [0, 1]])
+        self.assertEqual([sorted(it) for it in json.loads(values.written("sets", ({2, 0}, range(2))))], [[0, 2], [0, 1]])
+        p = Polytope(vertices=[(1, 0), (1, 1)], facets=[(0, 1), (1, -1)], VERTICES_IN_FACETS=({0}, (1,)))
+        self.assertEqual(p.VERTICES_IN_FACETS, [[0], [1]])
 
 
 class Given(unittest.TestCase):
@@ -157,6 +159,13 @@ class Given(unittest.TestCase):
             with self.assertRaises(nevolimush.BadValue) as caught:
                 Polytope(**given)
             self.assertEqual((caught.exception.number, caught.exception.reason), (6, reason))
+
+    def test_what_is_refused_takes_no_place(self):
+        with nevolimush.Session() as where:
+            for _ in range(40):
+                with self.assertRaises(nevolimush.BadValue):
+                    Polytope(points=[(1, "1/0")])
+            self.assertEqual(where._ask("new one Polytope"), ["ok"])
 
     def test_names_with_an_end_of_line(self):
         p = Polytope(points=[(1, 0)])
