@@ -186,9 +186,12 @@ class Session:
 
     def _put(self, thing, name):
         """The process holds the object under the name."""
+        if thing._end is not None:
+            thing._end.detach()
         thing._name = name
         self._live[name] = weakref.ref(thing)
-        weakref.finalize(thing, self._gone.append, name).atexit = False
+        thing._end = weakref.finalize(thing, self._gone.append, name)
+        thing._end.atexit = False
 
     def _holds(self, thing):
         """Whether the process holds the object, which is then the one used last."""
@@ -223,18 +226,21 @@ class Session:
         if not thing._steps:
             raise RuntimeError("this object is too large to be saved, so it cannot be made anew: make it again")
         name = self._new_name()
-        for step in thing._steps:
-            self._repeat(step, name)
+        self._repeat(thing._steps, name)
         thing._before = thing._steps[0]
         self._put(thing, name)
 
-    def _repeat(self, step, name):
-        """One step of an object that is made anew; that no chain leads to what is asked is no news."""
-        if step.file is not None:
-            self.file().write_bytes(step.file)
-        lines = self._ask(step.of(name))
-        if is_refused(lines) and not is_tried(lines):
-            raise refusal_of(lines)
+    def _repeat(self, steps, name):
+        """Makes an object by its steps, and answers the last reply; that no chain leads to what is asked is no refusal of it."""
+        for place, step in enumerate(steps):
+            if step.file is not None:
+                self.file().write_bytes(step.file)
+            lines = self._ask(step.of(name))
+            if is_refused(lines) and not is_tried(lines):
+                if place:
+                    self._ask(f"drop {name}")
+                raise refusal_of(lines)
+        return lines
 
     def file(self):
         """The file by which objects are loaded and saved."""

@@ -126,7 +126,7 @@ class Thing(Asked):
     def _begin(self, session):
         """An object that the process does not hold yet."""
         self._session, self._name, self._steps = session, None, None
-        self._values, self._before = {}, Step("")
+        self._values, self._before, self._end = {}, Step(""), None
         # the names of what was given
         self._told = []
 
@@ -164,14 +164,7 @@ class Thing(Asked):
         with session._lock:
             session._leave_room(sum(len(it.line) + 512 for it in steps))
             name = session._new_name()
-            for place, step in enumerate(steps):
-                if step.file is not None:
-                    session.file().write_bytes(step.file)
-                lines = session._ask(step.of(name))
-                if is_refused(lines):
-                    if place:
-                        session._ask(f"drop {name}")
-                    raise refusal_of(lines)
+            lines = session._repeat(steps, name)
             self._steps = steps
             session._put(self, name)
         return lines

@@ -71,6 +71,25 @@ class Files(unittest.TestCase):
         shown = [(it.label, it.evidence[0].kind, it.evidence[0].shown) for it in caught.exception.failures]
         self.assertIn(("dd_facets", "E1", None), shown)
 
+    def test_evidence_is_checked_without_the_program(self):
+        """By bridge/check-evidence, which finds a line of another object wanting."""
+        big = 2**120
+        with Session(rules=None):
+            p, q = Polytope(points=WIDE_POINTS), Polytope(inequalities=[(big, -1), (0, 1)])
+            lp = q.lp((0, big))
+            for ask in (lambda: p.FACETS, lambda: lp.MAXIMAL_VALUE):
+                with self.assertRaises(NoChain):
+                    ask()
+            p.save(self.folder / "p.json"), q.save(self.folder / "q.json")
+            lines = ["".join(f"{it.line}\n" for one in thing.failures for it in one.evidence) for thing in (p, q)]
+        command = [sys.executable, "-B", str(finding.bridges() / "check-evidence")]
+        status = {
+            (name, place): subprocess.run([*command, str(self.folder / name)], input=lines[place], capture_output=True, text=True).returncode
+            for name in ("p.json", "q.json")
+            for place in (0, 1)
+        }
+        self.assertEqual({key for key, it in status.items() if it == 0}, {("p.json", 0), ("q.json", 1)})
+
     def test_linear_programs_are_loaded(self):
         path = self.folder / "p.json"
         p = cube(2)

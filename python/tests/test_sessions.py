@@ -97,11 +97,11 @@ class Many(unittest.TestCase):
     def test_that_used_longest_ago_is_let_go(self):
         with Few() as where:
             p, q = cube(2), cube(3)
-            others = []
+            name, others = p._name, []
             for _ in range(9):
                 others.append(cube(1))
                 p.held
-                self.assertIn(p._name, where._live)
+                self.assertEqual(p._name, name)
             self.assertNotIn(q._name, where._live)
 
     def test_new_objects_of_objects_that_were_let_go(self):
