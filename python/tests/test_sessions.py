@@ -12,7 +12,8 @@ from fractions import Fraction
 from pathlib import Path
 from random import Random
 
-from nevolimush import Ended, NoChain, Polytope, Session, cross, cube, current, process, simplex
+import brute
+from nevolimush import Cone, Ended, NoChain, Polytope, Session, cross, cube, current, process, simplex
 from test_objects import WIDE_POINTS
 
 PYTHON = Path(__file__).resolve().parents[1]
@@ -222,19 +223,39 @@ class Killed(unittest.TestCase):
 
     def test_an_interruption_leaves_no_reply_behind(self):
         """Ctrl-C in a question: the next question gets its own reply."""
+        was = signal.signal(signal.SIGINT, signal.default_int_handler)
+        self.addCleanup(signal.signal, signal.SIGINT, was)
         with Session() as where:
             p = simplex(2)
             old = where._process
-
-            def interrupted():
-                where._process.run.stdout.readline()
-                raise KeyboardInterrupt
-
-            where._process.reply = interrupted
+            os.kill(old.run.pid, signal.SIGSTOP)
+            threading.Timer(0.2, os.kill, (os.getpid(), signal.SIGINT)).start()
             with self.assertRaises(KeyboardInterrupt):
                 p.F_VECTOR
-            self.assertEqual((p.N_VERTICES, p.F_VECTOR), (3, [3, 3]))
             self.assertEqual(old.run.returncode, -9)
+            self.assertEqual((p.N_VERTICES, p.F_VECTOR), (3, [3, 3]))
+
+    def test_among_random_objects(self):
+        """Objects are let go, saved, killed and made anew at random, and each value stays that of brute force."""
+        random, killed = Random(6), 0
+        with Few() as where:
+            objects = []
+            for is_polytope, cols, generators, lines, thing in brute.random_things(random, 15):
+                given = {"points" if is_polytope else "rays": generators or [{"cols": cols}], "lineality": lines}
+                objects.append(((Polytope if is_polytope else Cone)(**given), brute.values(thing, is_polytope)))
+                for name in ("VERTICES" if is_polytope else "RAYS", "FACETS"):
+                    self.assertEqual(getattr(objects[-1][0], name), objects[-1][1][name])
+            asks = [(p, name, value) for p, wanted in objects for name, value in wanted.items() if value is not None]
+            random.shuffle(asks)
+            for p, name, value in asks:
+                if random.random() < 0.05 and where._process is not None:
+                    os.kill(where._process.run.pid, signal.SIGKILL)
+                    p._values.clear()
+                    killed += 1
+                    with self.assertRaises(Ended):
+                        p.held
+                self.assertEqual(getattr(p, name), value, f"{name} of {p!r}")
+        self.assertGreater(killed, 5)
 
 
 class Two(unittest.TestCase):
