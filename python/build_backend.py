@@ -6,7 +6,7 @@ import zipfile
 from pathlib import Path
 
 HERE = Path(__file__).resolve().parent
-NAME, VERSION = "nevolimush", "0.1"
+NAME, VERSION = "nevolimush", "1.0.0"
 TOLD = f"{NAME}-{VERSION}.dist-info"
 METADATA = f"""Metadata-Version: 2.1
 Name: {NAME}

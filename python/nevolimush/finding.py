@@ -18,28 +18,33 @@ class NoProgram(FileNotFoundError):
     """The program is not there: the package only asks it."""
 
 
+def is_repository(top):
+    return (top / "crates.txt").is_file() and (top / "python" / "nevolimush" / "finding.py").is_file()
+
+
 def repository():
-    """The repository that this package stands in, or None where it is installed elsewhere."""
-    top = HERE.parent.parent
-    return top if (top / "crates.txt").is_file() and (top / "python" / "nevolimush" / "finding.py").is_file() else None
+    """The repository that this package stands in, or that the folder of the call is in; or None."""
+    here = Path.cwd()
+    return next((top for top in (HERE.parent.parent, here, *here.parents) if is_repository(top)), None)
 
 
 def program():
-    """The program: that of the environment, that which is built in the repository, or that on the path."""
+    """The program: that of the environment, that beside the package, that which is built in the
+    repository that this folder is in, or that on the path."""
     named = os.environ.get(VARIABLE)
     if named:
         if not os.access(named, os.X_OK):
             raise NoProgram(f"{VARIABLE} names {named!r}, which is no program")
         return Path(named).resolve()
-    top = repository()
-    if top and os.access(top / BUILT, os.X_OK):
-        return top / BUILT
+    for top in (HERE.parent.parent, repository()):
+        if top and os.access(top / BUILT, os.X_OK):
+            return top / BUILT
     found = shutil.which(COMMAND)
     if found:
         return Path(found).resolve()
     raise NoProgram(
         f"the program is not there: name it by {VARIABLE}, put it on the path as {COMMAND}, or build it "
-        "in the repository by ./polymake, as README.md says"
+        "by ./polymake in the repository and call from there, as README.md says"
     )
 
 

@@ -13,6 +13,9 @@ EVIDENCE = {
     "E5": "more than 2,048 rays, facets or cells come up, or more than 65,536 faces",
 }
 
+# The kinds that say that 127 bits are left.
+OF_NUMBERS = {"E1", "E2", "E3", "E4"}
+
 
 @dataclass(frozen=True)
 class Evidence:
@@ -43,7 +46,10 @@ class Failure:
         place = f" for the program {self.program}" if self.program else ""
         if self.how == "false":
             return f"{self.label} was not tried: {self.what} is not as it asks"
-        return f"{self.label} failed{place} by {self.what}: {EVIDENCE.get(self.what, 'it cannot go on')}"
+        shown = EVIDENCE.get(self.what, "it cannot go on")
+        if self.what in OF_NUMBERS and self.label.endswith("_wide"):
+            shown = f"not by numbers of 512 bits either; {shown}"
+        return f"{self.label} failed{place} by {self.what}: {shown}"
 
 
 class Refused(Exception):
@@ -127,11 +133,11 @@ def advice(failures, held, is_wide):
     if not kinds and not failures:
         known = ", ".join(held) or "nothing"
         yield f"no rule failed: nothing leads there from {known}; give a description, as points or inequalities"
-    if kinds & {"E1", "E2", "E3", "E4"} and not is_wide:
+    if kinds & OF_NUMBERS and not is_wide:
         yield "to try: the wide rules, which are those of Session(): they work by numbers of 512 bits on the way"
     if kinds & {"E2", "E5"}:
         yield "to try: the same rows in another order, sorted for instance"
-    if kinds & {"E1", "E2", "E3", "E4"}:
+    if kinds & OF_NUMBERS:
         yield "to try: smaller numbers: move it to the origin, round to fewer places, scale denominators away"
     if "E5" in kinds:
         yield "to try: what needs no more rows than 2,048, or no faces, of a smaller object"

@@ -151,28 +151,47 @@ class Installed(unittest.TestCase):
         """What an installer unpacks runs by the program that is named."""
         with tempfile.TemporaryDirectory() as folder:
             name = build_backend.build_wheel(folder)
-            self.assertEqual(name, "nevolimush-0.1-py3-none-any.whl")
+            self.assertEqual(name, "nevolimush-1.0.0-py3-none-any.whl")
             zipfile.ZipFile(Path(folder) / name).extractall(folder)
             script = "from nevolimush import cube, finding\nprint(finding.__file__, cube(3).F_VECTOR, finding.repository())"
             run = subprocess.run([sys.executable, "-B", "-c", script], capture_output=True, text=True, cwd=folder)
             self.assertEqual((run.stdout, run.stderr), (f"{Path(folder).resolve()}/nevolimush/finding.py [8, 12, 6] None\n", ""))
 
-    def test_the_program_is_found_on_the_path(self):
+    def test_the_program_is_found(self):
+        """On the path, beside the package, and in the repository that the folder of the call is in."""
         program = finding.program()
-        with tempfile.TemporaryDirectory() as folder:
-            (Path(folder) / finding.COMMAND).symlink_to(program)
-            with mock.patch.dict("os.environ", {"PATH": folder}), mock.patch.object(finding, "repository", lambda: None):
+        with tempfile.TemporaryDirectory() as name:
+            folder = Path(name).resolve()
+            here = mock.patch.object(finding, "HERE", folder / "lib" / "python" / "nevolimush")
+            (folder / finding.COMMAND).symlink_to(program)
+            self.addCleanup(os.chdir, os.getcwd())
+            os.chdir(name)
+            with mock.patch.dict("os.environ", {"PATH": name}), here:
                 del os.environ[finding.VARIABLE]
                 self.assertEqual(finding.program(), program)
-            with mock.patch.dict("os.environ", {"PATH": ""}), mock.patch.object(finding, "repository", lambda: None):
-                del os.environ[finding.VARIABLE]
+                os.environ["PATH"] = ""
                 with self.assertRaisesRegex(nevolimush.NoProgram, "nevolimush-program"):
                     finding.program()
+                for top in (folder, folder / "lib"):
+                    self.put(top / finding.BUILT, program)
+                    self.put(top / "crates.txt", program)
+                    self.put(top / "python" / "nevolimush" / "finding.py", program)
+                    self.assertEqual(finding.program(), top / finding.BUILT)
+                (folder / "lib" / "crates.txt").unlink()
+                (folder / "lib" / finding.BUILT).unlink()
+                (folder / "in" / "it").mkdir(parents=True)
+                os.chdir(folder / "in" / "it")
+                self.assertEqual(finding.program(), folder / finding.BUILT)
+                os.chdir("/")
+
+    def put(self, path, program):
+        path.parent.mkdir(parents=True, exist_ok=True)
+        path.symlink_to(program)
 
     def test_a_wheel_has_all_files_and_their_hashes(self):
         with tempfile.TemporaryDirectory() as folder:
             wheel = zipfile.ZipFile(Path(folder) / build_backend.build_wheel(folder))
-            record = wheel.read("nevolimush-0.1.dist-info/RECORD").decode().splitlines()
+            record = wheel.read("nevolimush-1.0.0.dist-info/RECORD").decode().splitlines()
             self.assertEqual([it.split(",")[0] for it in record], wheel.namelist())
             for line in record[:-1]:
                 name, digest, size = line.split(",")
