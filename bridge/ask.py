@@ -137,9 +137,29 @@ DESCRIPTIONS = (
 )
 
 
+# What the program takes: columns of a matrix, and rows.
+MOST_COLUMNS, MOST_ROWS = 33, 2048
+
+
+def beyond_lines(thing):
+    """Why the program refuses a file for its shape, if it does."""
+    if thing.columns > MOST_COLUMNS:
+        yield f"{thing.columns} columns, of which the program takes at most {MOST_COLUMNS}"
+    for lines, rows in DESCRIPTIONS:
+        for item in by_name(thing.type_name).values():
+            count = len(thing.rows(item.polytope)) if item.polytope in (lines, rows) else 0
+            if count > MOST_ROWS:
+                told = f"{count:,} rows, of which the program takes at most {MOST_ROWS:,}"
+                yield f"{item.name(thing.type_name)} has {told}"
+
+
 def size_lines(asked):
     """Whether the first description of the file fits by its size, before anything is computed."""
     thing = asked.thing
+    beyond = list(beyond_lines(thing))
+    if beyond:
+        yield from beyond
+        return
     for lines, rows in DESCRIPTIONS:
         if thing.type_name == "Fan" or not thing.rows(rows):
             continue
@@ -200,7 +220,7 @@ def tell_refusal(asked, reference, name, reply):
         say(f"{name}: too many chains cost less: ask first for what it is found from, like VERTICES")
 
 
-def give_all(session, asked, wanted):
+def give_all(session, asked, options, wanted):
     """The properties that are asked, and those that were refused."""
     refused = []
     for reference, name in wanted:
@@ -210,11 +230,11 @@ def give_all(session, asked, wanted):
             refused.append((reference, name, lines[0]))
     for it in refused:
         tell_refusal(asked, *it)
-    tell_why(session, asked, refused)
+    tell_why(session, asked, options, refused)
     return refused
 
 
-def tell_why(session, asked, refused):
+def tell_why(session, asked, options, refused):
     """Why no chain led to properties, in words."""
     names = [
         f"{reference.partition('.')[2]}.{name}".lstrip(".")
@@ -222,7 +242,8 @@ def tell_why(session, asked, refused):
         if reply.startswith("no 10 ")
     ]
     if names:
-        for line in why.lines(session, asked.thing, OBJECT, told_path(asked.path), names):
+        is_standard = options.rules is None and options.book is None
+        for line in why.lines(session, asked, OBJECT, names, is_standard):
             say(line)
 
 
@@ -235,10 +256,10 @@ def run(asked, options, folder):
         lines = session.ask(f"load {OBJECT} p.json")
         print(load_reply(lines), flush=True)
         if lines[0].startswith("no "):
-            told = "docs/from-polymake.md has what a file may hold"
-            say(f"{told_path(asked.path)}: the program refuses it, {shown(lines[0])}: {told}")
+            told = "; ".join(beyond_lines(asked.thing)) or "docs/from-polymake.md has what a file may hold"
+            say(f"{told_path(asked.path)}: the program refuses it, {shown(lines[0], 60)}: {told}")
             return 1
-        return 1 if give_all(session, asked, wanted) else 0
+        return 1 if give_all(session, asked, options, wanted) else 0
 
 
 def answered(options, notes):

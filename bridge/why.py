@@ -1,9 +1,12 @@
 """Why a property was not found: which rules failed by what, what is held, and what to try."""
 
 import re
+import shlex
 from dataclasses import dataclass
+from pathlib import Path
 
 from properties import PAIRS, PROGRAM_PROPERTIES, by_name
+from refusals import told_path
 
 RULE = re.compile(r"(\S+) : rule (.*?) : (.*?) \{ (\S+) \} weight")
 EXCLUDED = re.compile(r"excluded (\S+) (failed|false) (\S+)(?: @(\S+))?")
@@ -23,6 +26,12 @@ GENERATORS = ("POINTS", "VERTICES")
 
 # The client that finds all faces, whose E5 speaks of these.
 OF_FACES = "faces"
+
+# How the labels of the wide rules end, and what leaves 127 bits.
+OF_WIDE = "_wide"
+OF_NUMBERS = {"E1", "E2", "E3", "E4"}
+
+BRIDGES = Path(__file__).resolve().parent
 
 
 @dataclass(frozen=True)
@@ -97,6 +106,8 @@ def reason(told, exclusion):
     shown = EVIDENCE.get(exclusion.what, "it cannot go on")
     if exclusion.what == "E5" and rule.client == OF_FACES:
         shown = TOO_MANY_FACES
+    if exclusion.what in OF_NUMBERS and rule.label.endswith(OF_WIDE):
+        shown = f"not by numbers of 512 bits either; {shown}"
     return f"{finds(told, rule)} failed{place} by {exclusion.what}: {shown}"
 
 
@@ -116,17 +127,23 @@ def described(told):
     return [it for it in DESCRIPTIONS if first.get(it) in given]
 
 
+def bridge(name):
+    """A bridge, as it is called from the folder of this call."""
+    path, here = BRIDGES / name, Path.cwd()
+    return shlex.quote(str(path.relative_to(here) if path.is_relative_to(here) else path))
+
+
 def other_program(told, path, given):
     """How a program without the limit is asked."""
     word = "--ext" if given in GENERATORS else "--ine"
     pair = " ".join(told.names([it]) for it in (given, PAIRS[given]))
     words = f"--cone {word}" if told.type_name == "Cone" else word
-    asked = f"./polymake {path} {pair} | bridge/to-cdd {words} > rows && lrs rows"
+    asked = f"./polymake {path} {pair} | {bridge('to-cdd')} {words} > rows && lrs rows"
     return f"to try: an answer that is not proved, by lrslib: {asked}"
 
 
-def next_lines(told, path):
-    """What to try, by the kinds of evidence."""
+def next_lines(told, path, is_standard):
+    """What to try, by the kinds of evidence, and by whether only the standard rules were taken."""
     given = described(told)
     kinds = {it.what for it in told.exclusions if it.how == "failed"}
     if not given and not kinds:
@@ -135,7 +152,9 @@ def next_lines(told, path):
     if kinds & {"E2", "E5"}:
         order = "double description takes them one by one"
         yield f"to try: the same rows in another order, sorted for instance: {order}"
-    if kinds & {"E1", "E2", "E3", "E4"}:
+    if kinds & OF_NUMBERS and is_standard:
+        yield "to try: the same words without --standard, which go on by numbers of 512 bits"
+    if kinds & OF_NUMBERS:
         ways = "move it to the origin, round to fewer places, scale denominators away"
         yield f"to try: smaller numbers: {ways}"
     if "E5" in kinds:
@@ -144,8 +163,9 @@ def next_lines(told, path):
         yield other_program(told, path, given[0])
 
 
-def lines(session, thing, name, path, refused):
+def lines(session, asked, name, refused, is_standard):
     """What is said after refusals for want of a chain, a line each."""
+    thing, path = asked.thing, told_path(asked.path)
     told = Told(session, thing, name)
     names = ", ".join(refused)
     yield f"{names}: not found, since no chain of rules is left that leads there"
@@ -155,4 +175,4 @@ def lines(session, thing, name, path, refused):
     for it in told.exclusions:
         yield reason(told, it)
     yield from held_lines(told, path)
-    yield from next_lines(told, path)
+    yield from next_lines(told, path, is_standard)
