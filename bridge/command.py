@@ -43,12 +43,12 @@ def add_type(words, told):
 
 
 def text_at(path, given=None):
-    """All of a file, or of what is given where no file is named, as text."""
+    """All of a file, or of what is given where no file is named, as text, without the mark that it is UTF-8."""
     try:
         if path is None:
-            return given.read().decode("utf-8")
+            return given.read().decode("utf-8").removeprefix("\ufeff")
         with open(path, "rb") as file:
-            return file.read().decode("utf-8")
+            return file.read().decode("utf-8").removeprefix("\ufeff")
     except OSError as fault:
         raise Refusal(None, fault.strerror or "cannot be read") from None
     except UnicodeDecodeError as fault:

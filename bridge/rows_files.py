@@ -8,7 +8,7 @@ import command
 from entries import decimal_of
 from polymake_files import data_text
 from properties import Program, Thing
-from refusals import Fault, Refusal
+from refusals import Fault, Refusal, shown
 from scripts import script_lines
 
 # What a line of one word says of the rows below it: the property, and the entry before each row.
@@ -44,6 +44,11 @@ PROGRAM = "lp"
 
 NUMBER = re.compile(r"[-+]?\.?[0-9]")
 
+# A row may stand in brackets, and rows in brackets around them; a number or a name of a column in quotes.
+CLOSING = {"[": "]", "(": ")"}
+QUOTED = re.compile(r"""(["'])([^"']*)\1""")
+NAME = re.compile(r"""["']?[A-Za-z_][^\s,]*""")
+
 
 @dataclass
 class Part:
@@ -55,12 +60,64 @@ class Part:
     rows: list = field(default_factory=list)
 
 
-def lines_of(text):
+def kept_lines(text):
     """The lines that have something beside a comment, each with its number."""
-    for number, line in enumerate(command.lines_of(text.removeprefix("\ufeff")), 1):
+    for number, line in enumerate(command.lines_of(text), 1):
         kept = line.partition("#")[0].strip()
         if kept:
             yield number, kept
+
+
+class Brackets:
+    """Rows in brackets: each group without a group in it is one."""
+
+    def __init__(self):
+        self.open, self.row, self.line, self.is_row = [], "", 0, False
+
+    def rows(self, number, line):
+        """The rows that end in this line, each with the line in which it began."""
+        for mark in line:
+            if mark in CLOSING:
+                self.check_between(number)
+                self.open.append((CLOSING[mark], number))
+                self.row, self.line, self.is_row = "", number, True
+            elif mark not in CLOSING.values():
+                self.row += mark
+            elif not self.open or mark != self.open.pop()[0]:
+                raise Refusal(number, f"'{mark}' closes nothing")
+            else:
+                yield from self.ended(number)
+        self.row += " "
+
+    def check_between(self, number):
+        beside = self.row.strip(" \t,")
+        if beside:
+            raise Refusal(number, f"{shown(beside)} stands beside rows in brackets")
+
+    def ended(self, number):
+        """The row that is closed, if it is one: brackets around rows, or around none, are not."""
+        if not self.is_row:
+            self.check_between(number)
+        elif self.row.strip():
+            yield self.line, QUOTED.sub(r"\2", self.row).strip()
+        elif self.open:
+            raise Refusal(self.line, "an empty row")
+        self.row, self.is_row = "", False
+
+
+def lines_of(text):
+    """The headings and the rows, each with the number of its line."""
+    brackets = Brackets()
+    for number, line in kept_lines(text):
+        if line[0] in CLOSING or brackets.open or brackets.line and line[0] in "]),":
+            yield from brackets.rows(number, line)
+            continue
+        brackets.check_between(number)
+        brackets = Brackets()
+        yield number, line
+    if brackets.open:
+        raise Refusal(brackets.open[-1][1], "a bracket is not closed")
+    brackets.check_between(brackets.line)
 
 
 def heading_of(line):
@@ -68,10 +125,27 @@ def heading_of(line):
     return word if word in HEADINGS else None
 
 
+def is_header(line, below):
+    """Whether a line has the names of columns, of as many as the row below it has."""
+    entries = lambda text: text.replace(",", " ").split()
+    return all(map(NAME.fullmatch, entries(line))) and len(entries(line)) == len(entries(below))
+
+
 def are_rows(text):
-    """Whether a text looks like rows: its first line is a number or a heading."""
-    first = next((line for _, line in lines_of(text)), "")
-    return bool(heading_of(first) or NUMBER.match(first))
+    """Whether a text looks like rows: its first line is a number, a heading or in brackets, or has names of columns."""
+    lines = kept_lines(text)
+    first, second = (next(lines, (0, ""))[1] for _ in range(2))
+    if heading_of(first) or NUMBER.match(first) or first[:1] in CLOSING:
+        return True
+    return bool(NUMBER.match(second)) and is_header(first, second)
+
+
+def without_header(lines, notes):
+    """The lines below one of names of columns, which is told; all lines where there is none."""
+    if len(lines) > 1 and not heading_of(lines[0][1]) and NUMBER.match(lines[1][1]) and is_header(lines[0][1], lines[1][1]):
+        notes.tell(lines[0][0], f"{shown(lines[0][1])} is left out, as names of columns")
+        return lines[1:]
+    return lines
 
 
 def row_of(line, number, count):
@@ -87,10 +161,10 @@ def row_of(line, number, count):
         raise Refusal(number, f"row {count}: {fault.text}") from None
 
 
-def parts_of(text, heading):
+def parts_of(text, heading, notes):
     """The rows by their headings; those above the first heading are of the kind that is named."""
     parts = []
-    for number, line in lines_of(text):
+    for number, line in without_header(list(lines_of(text)), notes):
         word = heading_of(line)
         if word:
             parts.append(Part(word, number, True))
@@ -172,7 +246,7 @@ def check_points(thing, parts):
 
 def read_rows(text, notes, heading="points", type_name="Polytope"):
     """The polytope or the cone of rows."""
-    parts, thing = parts_of(text, heading), Thing(type_name)
+    parts, thing = parts_of(text, heading, notes), Thing(type_name)
     check_together(parts)
     for part in parts:
         put_part(thing, part)
