@@ -1,9 +1,11 @@
 pub mod Facts
+pub mod Names
 pub mod Twice
 pub mod Sound
 pub mod Reading
 pub mod Builds
 pub mod Objectives
+pub mod Given
 pub mod Placed
 pub mod Lines
 pub mod Building

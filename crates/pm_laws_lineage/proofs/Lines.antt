@@ -1,23 +1,28 @@
 -- What an object was made of, as a fact of one object and of all objects of a machine.
 use Rattle.pm_filing.specs.Filing.{loaded_object}
 use Rattle.pm_files.specs.Files.{SavedFile}
+use Rattle.pm_laws_lineage.proofs.Given.{sound_given}
 use Rattle.pm_laws_lineage.proofs.Objectives.{sound_objective}
 use Rattle.pm_laws_lineage.proofs.Placed.{Placed, both_placed, ensured_placed, given_placed, loaded_placed, made_placed, settling_placed}
 use Rattle.pm_laws_lineage.proofs.Reading.{stands_for}
 use Rattle.pm_laws_lineage.proofs.Sound.{KnowsDimension, Sound, ensured_keeps, sound_settled}
 use Rattle.pm_laws_lineage.proofs.Twice.{settling_knows}
-use Rattle.pm_laws_lineage.specs.Provenances.{AllStandFor, Provenance, Provenances, StandsFor, lineage_of, made, of_its_values, put}
+use Rattle.pm_laws_lineage.specs.Lineages.{Lineage}
+use Rattle.pm_laws_lineage.specs.Provenances.{AllStandFor, Provenance, Provenances, StandsFor, keeps_lineage, lineage_of, made, made_with, of_its_values, provenance_given, put}
 use Rattle.pm_machine.proofs.Keeping.{decide, other_bytes, same_bytes}
 use Rattle.pm_machine.proofs.Kept.{honesty}
 use Rattle.pm_machine.specs.Machines.{Machine, OthersStay}
+use Rattle.pm_machine.specs.Steps.{property_named}
 use Rattle.pm_making.specs.Rows.{object_of}
-use Rattle.pm_object.proofs.Formed.{held_stays}
+use Rattle.pm_object.proofs.Formed.{held_stays, value_later}
 use Rattle.pm_object.specs.Honest.{IsKept}
-use Rattle.pm_object.specs.State.{State, empty_object, given_at, has_rounds, is_given_at, is_held, is_sealed_at, read_at, settling, take_refusal, with_disabled, with_held, with_program}
+use Rattle.pm_object.specs.State.{State, empty_object, given_at, has_rounds, is_given_at, is_held, is_sealed_at, read_at, settling, take_refusal, value_of, with_disabled, with_held, with_program}
 use Rattle.pm_object.specs.declared.held.TakeFail.{TakeFail}
 use Rattle.pm_object.specs.declared.held.TakeFail.TheVariants as fail
 use Rattle.pm_object_type.specs.declared.object_type.ObjectType.{ObjectType}
-use Rattle.pm_props.proofs.Places.{same_property_is}
+use Rattle.pm_props.proofs.Places.{same_place_refl, same_property_is, same_property_refl}
+use Rattle.pm_props.specs.Names.{property_named_in}
+use Rattle.pm_props.specs.Places.{place_of, same_place}
 use Rattle.pm_props.specs.declared.property.PropId.{PropId}
 use Rattle.pm_props.specs.declared.property.PropId.TheVariants.{ConeAmbientDim, LinearObjective}
 use Rattle.pm_props.specs.declared.set.PropSet.{PropSet}
@@ -26,8 +31,9 @@ use Rattle.pm_rounds.specs.declared.round.Ending.{Ending}
 use Rattle.pm_rules.specs.declared.rule.Rule.{Rule}
 use Rattle.pm_types.specs.Values.{PropertyValue}
 use Rattle.std.proofs.Common.{ap, bytes_eq, false, inl, inr, refl, subst, sym, true, true≢false, ◌∙◌}
+use Rattle.std.proofs.lemmas.List.Elements.{filter-append}
 use Rattle.std.specs.Option.{is_some}
-use Rattle.std.specs.Prelude.{Bool, IfSome, List, None, Option, Some, [], if◌then◌else◌, not, ℕ, ◌∷◌, ◌≡◌}
+use Rattle.std.specs.Prelude.{Bool, IfSome, List, None, Option, Some, [], if◌then◌else◌, not, ℕ, ◌++◌, ◌∷◌, ◌≡◌}
 
 -- an object of this provenance between commands
 pub record InLine (provenance : Provenance) (o : State) : Type 0 where
@@ -38,6 +44,26 @@ pub record InLine (provenance : Provenance) (o : State) : Type 0 where
 
 pub record AllInLine (provenances : Provenances) (m : Machine) : Type 0 where
   pub each : (q : List ℕ) → IfSome (m.object q) (InLine (provenances q))
+
+-- ---- what is given
+refusal_new : (o : State) (sub : Option ℕ) (p : PropId) (v : PropertyValue) → take_refusal o sub p v ≡ None → is_held p (read_at sub o.held) ≡ false
+refusal_new o sub p v e = by _ (is_held p (read_at sub o.held)) e
+  where
+    by : (x : Option TakeFail) (a : Bool) → (if a then Some fail.AlreadyHeld else x) ≡ None → a ≡ false
+    by x true h = absurd (true≢false (ap is_some h))
+    by x false h = refl
+
+-- it is read there
+given_is_read : (o : State) (p : PropId) (v : PropertyValue) → is_held p (read_at None o.held) ≡ false → value_of p (read_at None (o.held ++ given_at None p v ∷ [])) ≡ Some v
+given_is_read o p v new =
+    ap (value_of p) (filter-append (λ h. same_place h.place (place_of None h.property)) o.held (given_at None p v ∷ []))
+    ∙ value_later p (read_at None o.held) (read_at None (given_at None p v ∷ [])) (none_of (value_of p (read_at None o.held)) new)
+    ∙ ap (λ t. value_of p (if t then given_at None p v ∷ [] else [])) (same_place_refl (place_of None p))
+    ∙ ap (λ t. if t then Some v else None) (same_property_refl p)
+  where
+    none_of : (x : Option PropertyValue) → is_some x ≡ false → x ≡ None
+    none_of None e = refl
+    none_of (Some w) e = absurd (true≢false e)
 
 -- ---- one object
 no_rounds_known : (o : State) → has_rounds o ≡ false → KnowsDimension o
@@ -68,6 +94,25 @@ module _ (book : List Rule) where
     sound = tt;
     placed = both_placed o.held (given_at sub p v ∷ []) s.placed (given_placed sub p v);
   }
+
+  -- what is given to the object itself, of which its lineage knows
+  given_line : (o : State) (l : Lineage) (p : PropId) (v : PropertyValue) → take_refusal o None p v ≡ None → InLine (made l) o → (t : Bool) → keeps_lineage p ≡ t
+      → InLine (if t then made_with l p (value_of p (read_at None (o.held ++ given_at None p v ∷ []))) else of_its_values) (with_held o (given_at None p v ∷ []))
+  given_line o l p v free s false keeps = in_line_taken (made l) o None p v free s
+  given_line o l p v free s true keeps = subst (λ z. InLine (made_with l p z) (with_held o (given_at None p v ∷ []))) (sym (given_is_read o p v (refusal_new o None p v free))) (record {
+    kept = (honesty book).taken o None p v free s.kept;
+    knows = λ h. held_stays ConeAmbientDim o.held (given_at None p v ∷ []) (s.knows h);
+    sound = sound_given o p v keeps l s.sound;
+    placed = both_placed o.held (given_at None p v ∷ []) s.placed (given_placed None p v);
+  })
+
+  pub in_line_given : (provenance : Provenance) (o : State) (sub : Option ℕ) (text : List ℕ) (p : PropId) (v : PropertyValue) → sub ≡ None → property_named o.of sub text ≡ Some p → take_refusal o sub p v ≡ None → InLine provenance o
+      → InLine (provenance_given provenance (property_named_in o.of text) (with_held o (given_at sub p v ∷ []))) (with_held o (given_at sub p v ∷ []))
+  in_line_given of_its_values o sub text p v own property free s = in_line_taken of_its_values o sub p v free s
+  in_line_given (made l) o sub text p v own property free s =
+      subst (λ z. InLine (provenance_given (made l) (property_named_in o.of text) (with_held o (given_at z p v ∷ []))) (with_held o (given_at z p v ∷ []))) (sym own)
+      (subst (λ z. InLine (provenance_given (made l) z (with_held o (given_at None p v ∷ []))) (with_held o (given_at None p v ∷ []))) (sym (subst (λ z. property_named o.of z text ≡ Some p) own property))
+      (given_line o l p v (subst (λ z. take_refusal o z p v ≡ None) own free) s (keeps_lineage p) refl))
 
   -- a program takes its objective alone
   some_not_none : {A : Type 0} {a : A} → Some a ≡ None → ⊥

@@ -1,6 +1,7 @@
 -- An objective that is given to a linear program leaves an object what it was made of.
 use Rattle.pm_geom.specs.Things.{Orders}
 use Rattle.pm_laws_lineage.proofs.Facts.{based_append, objectives_append, right_of_fewer}
+use Rattle.pm_laws_lineage.proofs.Names.{among_first}
 use Rattle.pm_laws_lineage.proofs.Sound.{Sound}
 use Rattle.pm_laws_lineage.proofs.Twice.{held_append}
 use Rattle.pm_laws_lineage.specs.Provenances.{Provenance, made, objectives, of_its_values}
@@ -36,21 +37,21 @@ no_second_half p v w t = tt
 abbrev objective_fact : ℕ → PropertyValue → Fact
 objective_fact s v = record { place = Some s; property = LinearObjective; value = v }
 
-one_more : (xs : List Fact) (s : ℕ) (v : PropertyValue) (t : Thing) (p : Orders) → RightAll xs t p → RightFact (objective_fact s v) t p → RightAll (objective_fact s v ∷ xs) t p
-one_more xs s v t p r new = record {
+pub one_more : (xs : List Fact) (new : Fact) (t : Thing) (p : Orders) → ((g : Fact) → RightTogether t new g) → ((g : Fact) → RightTogether t g new) → RightAll xs t p → RightFact new t p → RightAll (new ∷ xs) t p
+one_more xs new t p before after r right = record {
   thing = r.thing;
   orders = r.orders;
   each = λ f i. first f (among_Contains _ i);
   together = λ f g i j. both f g (among_Contains _ i) (among_Contains _ j);
 }
   where
-    first : (f : Fact) → Among f (objective_fact s v ∷ xs) → RightFact f t p
-    first f here = new
+    first : (f : Fact) → Among f (new ∷ xs) → RightFact f t p
+    first f here = right
     first f (there i) = r.each f (Contains_among i)
 
-    both : (f g : Fact) → Among f (objective_fact s v ∷ xs) → Among g (objective_fact s v ∷ xs) → RightTogether t f g
-    both f g here j = no_first_half v g.property g.value t
-    both f g (there i) here = no_second_half f.property f.value v t
+    both : (f g : Fact) → Among f (new ∷ xs) → Among g (new ∷ xs) → RightTogether t f g
+    both f g here j = before g
+    both f g (there i) here = after f
     both f g (there i) (there j) = r.together f g (Contains_among i) (Contains_among j)
 
 -- ---- what goes without saying is the same
@@ -126,11 +127,7 @@ new_columns s n m rows v held is e same =
     by None g = first (first_cols held) refl g
 
 -- ---- an objective more
-first_name : (a b c d e : Bool) → a ≡ true → Among ConeAmbientDim (only_if a ConeAmbientDim ++ only_if b InputLineality ++ only_if c Equations ++ only_if d LinealitySpace ++ only_if e AffineHull)
-first_name true b c d e h = among_append_left (only_if e AffineHull) (among_append_left (only_if d LinealitySpace) (among_append_left (only_if c Equations) (among_append_left (only_if b InputLineality) (here {xs = []}))))
-first_name false b c d e h = absurd (true≢false (sym h))
-
-same_number : (m n : ℕ) → pos m ≡ pos n → m ≡ n
+pub same_number : (m n : ℕ) → pos m ≡ pos n → m ≡ n
 same_number m n e = cc
 
 settling_same : (o : State) (s : ℕ) (v : PropertyValue) (u : Thing) (p : Orders) (rows : List (List _)) → v ≡ matrix u.cols rows → RightAll (facts (based o.held ++ settling o)) u p
@@ -147,7 +144,7 @@ settling_same o s v u p rows is r = by (has_rounds o) refl
     columns e h = new_columns s n u.cols rows v o.held is refl (same_number n u.cols right)
       where
         i : Among (settled n ConeAmbientDim) (settling o)
-        i = among_map (settled n) (subst (λ t. Among ConeAmbientDim (if t then [] else names_to_settle o.held)) (sym e) (first_name _ _ _ _ _ (ap not h)))
+        i = among_map (settled n) (subst (λ t. Among ConeAmbientDim (if t then [] else names_to_settle o.held)) (sym e) (among_first _ _ _ _ _ (ap not h)))
 
         right : pos n ≡ pos u.cols
         right = r.each (record { place = None; property = ConeAmbientDim; value = (settled n ConeAmbientDim).value }) (Contains_among (among_map (λ (g : HeldValue). record { place = g.place; property = g.property; value = g.value }) (among_append_right (based o.held) i)))
@@ -210,4 +207,4 @@ sound_objective (made l) o s v sound = λ u d. right u d
             let same = settling_same o s v u p (u.objective is.program ∷ []) is.value r in
             subst (λ z. RightAll (facts (z ++ settling later)) u p) (sym based_more)
             (subst (λ z. RightAll (facts ((based o.held ++ given_at (Some s) LinearObjective v ∷ []) ++ z)) u p) (sym same)
-            (right_of_fewer (objective_fact s v ∷ facts (based o.held ++ settling o)) _ u p within (one_more (facts (based o.held ++ settling o)) s v u p r (fact u p is))))
+            (right_of_fewer (objective_fact s v ∷ facts (based o.held ++ settling o)) _ u p within (one_more (facts (based o.held ++ settling o)) (objective_fact s v) u p (λ g. no_first_half v g.property g.value u) (λ g. no_second_half g.property g.value v u) r (fact u p is))))

@@ -1,6 +1,7 @@
 -- Nothing goes without saying of an object that is ensured something, where the kinds of the rules keep the halves of
 -- descriptions together.
-use Rattle.pm_laws_lineage.proofs.Saved.{AllFalse, both, decide, held_of, is_not, none_of_five, not_both, of_held}
+use Rattle.pm_laws_lineage.proofs.Names.{AllFalse, none_of_five}
+use Rattle.pm_laws_lineage.proofs.Saved.{both, decide, held_of, is_not, not_both, of_held}
 use Rattle.pm_laws_lineage.proofs.Twice.{none, nothing_more}
 use Rattle.pm_laws_lineage.specs.Saved.{EnsuredIsSaid, IsSaid, IsSaidOnce, KeepsHalves, StandardKindsKeepHalves, keeps_halves, names}
 use Rattle.pm_object.proofs.Formed.{held_stays}

@@ -1,7 +1,7 @@
 -- Every step keeps each object in line with what it came of.
 use Rattle.pm_laws_lineage.proofs.Building.{built_line, ends_keep, all_keep, shape_line}
 use Rattle.pm_laws_lineage.proofs.Builds.{BuildLaws}
-use Rattle.pm_laws_lineage.proofs.Lines.{AllInLine, InLine, all_stand, in_line_disabled, in_line_empty, in_line_ensured, in_line_loaded, in_line_stands, in_line_objective, in_line_program, in_line_settled, in_line_taken, line_at, new_line, one_line, same_line}
+use Rattle.pm_laws_lineage.proofs.Lines.{AllInLine, InLine, all_stand, in_line_disabled, in_line_empty, in_line_ensured, in_line_loaded, in_line_stands, in_line_given, in_line_objective, in_line_program, in_line_settled, line_at, new_line, one_line, same_line}
 use Rattle.pm_laws_lineage.proofs.Facts.{right_of_fewer}
 use Rattle.pm_laws_lineage.proofs.Saved.{loaded_again_stands}
 use Rattle.pm_laws_lineage.proofs.Sound.{Sound}
@@ -24,7 +24,7 @@ use Rattle.pm_json.specs.Texts.{Given}
 use Rattle.pm_machine.specs.Building as building
 use Rattle.pm_machine.specs.Building.{BuildStep, MakeStep, wanted_all}
 use Rattle.pm_machine.specs.Machines.{Machine, Stays, shelf}
-use Rattle.pm_machine.specs.Steps.{CopyStep, IsSavedWhole, bytes_of, DisableStep, DropStep, EnsureStep, EnsuredAll, Ensures, EvidenceStep, ExplainStep, ExplainedAll, Gave, GiveStep, Gives, HistoryStep, LoadStep, LookupStep, Named, NewObjectStep, NewOf, NewProgramStep, OriginStep, RulesStep, SaveStep, ShowStep, Step, TakeStep, TakeValue, UnloadStep, disabling, named_at, part_named, settled_object}
+use Rattle.pm_machine.specs.Steps.{CopyStep, IsSavedWhole, bytes_of, DisableStep, DropStep, EnsureStep, EnsuredAll, Ensures, EvidenceStep, ExplainStep, ExplainedAll, Gave, GiveStep, Gives, HistoryStep, LoadStep, LookupStep, Named, NewObjectStep, NewOf, NewProgramStep, OriginStep, RulesStep, SaveStep, ShowStep, Step, TakeStep, TakeValue, UnloadStep, disabling, named_at, part_named, property_at, settled_object}
 use Rattle.pm_machine.specs.Steps as steps
 use Rattle.pm_making.specs.Rows.{row_of}
 use Rattle.pm_object.specs.State.{HeldValue, State, given_at, is_disabled, names_to_settle, place_named, take_refusal, with_disabled, with_held}
@@ -75,6 +75,9 @@ named_part o name x e = by (place_named name o) e
 
 named_sub : (m : Machine) (name sub : List ℕ) (x : Named) → option_and_then (λ o. part_named o (Some sub)) (m.object name) ≡ Some x → (s : ℕ) × (x.sub ≡ Some s)
 named_sub m name sub x e = let (o, at, part) = and_then_some (λ o. part_named o (Some sub)) (m.object name) x e in named_part o sub x part
+
+own_sub : (m : Machine) (name : List ℕ) (x : Named) → option_and_then (λ o. part_named o None) (m.object name) ≡ Some x → x.sub ≡ None
+own_sub m name x e = let (o, at, part) = and_then_some (λ o. part_named o None) (m.object name) x e in ap (λ (z : Named). z.sub) (sym (some_is part))
 
 taken_free : (o : State) (sub : Option ℕ) (p : PropId) (g : Given) (v : PropertyValue) → TakeValue o sub p g None (Some v) → take_refusal o sub p v ≡ None
 taken_free o sub p _ v (steps.takes same (can, _)) = subst (λ z. take_refusal o sub p z ≡ None) (sym (some_is same)) can
@@ -147,10 +150,12 @@ module _ (laws : BuildLaws) (book : List Rule) (provenances : Provenances) where
   new_of_line old new ref name (Some sub) text reply h all is = new_program_line old new ref name sub text text reply h all is
 
   -- ---- values that are given
-  taken_line : (old new : Machine) (name : List ℕ) (part : Option (List ℕ)) (x : Named) (p : PropId) (v : PropertyValue) → old.object name ≡ Some x.object → option_and_then (λ o. part_named o part) (old.object name) ≡ Some x → take_refusal x.object x.sub p v ≡ None
-      → new.object name ≡ Some (with_held x.object (given_at x.sub p v ∷ [])) → ((q : List ℕ) → (q ≡ name → ⊥) → new.object q ≡ old.object q) → AllInLine provenances old → AllInLine (after_taking name part provenances) new
-  taken_line old new name None x p v at named free is others all = new_line provenances name of_its_values _ old new is others (in_line_taken book (provenances name) x.object x.sub p v free (line_at provenances old name x.object at all)) all
-  taken_line old new name (Some sub) x p v at named free is others all =
+  taken_line : (old new : Machine) (name : List ℕ) (part : Option (List ℕ)) (text : List ℕ) (x : Named) (p : PropId) (v : PropertyValue) → old.object name ≡ Some x.object → option_and_then (λ o. part_named o part) (old.object name) ≡ Some x → property_at x text ≡ Some p → take_refusal x.object x.sub p v ≡ None
+      → new.object name ≡ Some (with_held x.object (given_at x.sub p v ∷ [])) → ((q : List ℕ) → (q ≡ name → ⊥) → new.object q ≡ old.object q) → AllInLine provenances old → AllInLine (after_taking name part text (new.object name) provenances) new
+  taken_line old new name None text x p v at named property free is others all =
+      subst (λ z. AllInLine (after_taking name None text z provenances) new) (sym is)
+      (new_line provenances name _ _ old new is others (in_line_given book (provenances name) x.object x.sub text p v (own_sub old name x named) property free (line_at provenances old name x.object at all)) all)
+  taken_line old new name (Some sub) text x p v at named property free is others all =
       let (s, e) = named_sub old name sub x named in
       one_line provenances name _ old new is others
       (subst (λ z. InLine (provenances name) (with_held x.object (given_at z p v ∷ []))) (sym e) (in_line_objective book (provenances name) x.object s p v (subst (λ z. take_refusal x.object z p v ≡ None) e free) (line_at provenances old name x.object at all))) all
@@ -158,7 +163,7 @@ module _ (laws : BuildLaws) (book : List Rule) (provenances : Provenances) where
   take_line : (old new : Machine) (ref : RefSeen) (text json : List ℕ) (reply : ReplySeen) → TakeStep old ref text json reply new → AllInLine provenances old → AllInLine (provenances_after (take_value ref text json) reply new provenances) new
   take_line old new ref text json _ (steps.is_refused r s) all = stays old new s all
   take_line old new ref text json _ (steps.now_held x p v at named taken told becomes) all =
-      taken_line old new ref.name ref.sub x p v (named_object old ref x at) at (taken_free x.object x.sub p _ v taken) becomes.object becomes.others all
+      taken_line old new ref.name ref.sub text x p v (named_object old ref x at) at named (taken_free x.object x.sub p _ v taken) becomes.object becomes.others all
 
   -- ---- properties that are ensured
   given_line : (provenance : Provenance) (old new : Configuration) (sub : Option ℕ) (name : List ℕ) (p : PropId) (reply : ReplySeen) → Gives book old sub name p reply new → InLine provenance old.object → InLine provenance new.object

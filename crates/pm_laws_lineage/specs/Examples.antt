@@ -1,24 +1,26 @@
 -- Lineages read: what they denote, and what they do not; and how objects came in a short run.
-use Rattle.std.specs.Prelude.{ℕ, ◌≡◌, ◌↔◌, ◌≤◌, ◌∷◌, [], List, None, Some, codes, false, true}
+use Rattle.std.specs.Prelude.{ℕ, ◌≡◌, ◌↔◌, ◌≤◌, ◌∷◌, [], List, None, Some, codes, false, suc, true}
 use Rattle.pm_command.specs.Commands.{RefSeen, build_object, copy_object, cross_shape, cube_shape, drop_object, make_object, new_object, take_value}
 use Rattle.pm_command.specs.declared.building.Builder.TheVariants.{One}
 use Rattle.pm_command.specs.declared.building.Unary.TheVariants.{Polar}
 use Rattle.pm_laws_things.specs.BuildingExamples.{unit_segment}
-use Rattle.pm_laws_lineage.specs.Provenances.{Provenances, StandsFor, provenance_loaded, provenances_after, lineage_of, made, of_its_values, saved_if}
-use Rattle.pm_laws_lineage.specs.Lineages.{Denotes, Lineage, one, shape, with_objectives}
+use Rattle.pm_laws_lineage.specs.Provenances.{Provenances, StandsFor, keeps_lineage, provenance_loaded, provenances_after, lineage_of, made, of_its_values, saved_if}
+use Rattle.pm_laws_lineage.specs.Lineages.{Denotes, Lineage, one, shape, with_objectives, with_value}
 use Rattle.pm_laws_lineage.specs.Saved.{keeps_halves}
 use Rattle.pm_limits.specs.Limits.{most_dimensions}
 use Rattle.pm_machine.specs.Machines.{Machine}
 use Rattle.pm_object.specs.State.{State, read_at, value_of}
+use Rattle.pm_object_type.specs.declared.object_type.ObjectType.TheVariants.{Polytope}
 use Rattle.pm_props.specs.Kinds.{finding}
-use Rattle.pm_props.specs.declared.property.PropId.TheVariants.{Equations, Inequalities, InputLineality, Points, Vertices}
+use Rattle.pm_props.specs.declared.property.PropId.TheVariants.{Bounded, ConeAmbientDim, Equations, Facets, Inequalities, InputLineality, LinealitySpace, NVertices, Points, Sites, Vertices}
 use Rattle.pm_script.specs.Replies.{Rounds, done, nothing, refused}
 use Rattle.pm_script.specs.declared.refusal.Refusal.TheVariants.{NoChain}
 use Rattle.pm_geom.specs.Things.{Orders}
 use Rattle.pm_laws_things.specs.Built.{IsCross}
 use Rattle.pm_types.specs.Right.{Right}
 use Rattle.pm_types.specs.Things.{AreOrders, IsThing, Thing}
-use Rattle.pm_types.specs.Values.{PropertyValue}
+use Rattle.pm_types.specs.Values.{PropertyValue, matrix, truth, whole}
+use lib.IntN.{pos}
 
 -- the polars of the cube are the cross-polytopes
 pub record PolarsOfCubesAreCrosses : Type 0 where
@@ -26,6 +28,26 @@ pub record PolarsOfCubesAreCrosses : Type 0 where
       → Denotes (one Polar (shape (cube_shape d))) u ↔ Denotes (shape (cross_shape d)) u
   -- the segment from 0 to 1 is none
   pub other : ¬ (Denotes (one Polar (shape (cube_shape 1))) unit_segment)
+
+-- what is given to a cube itself
+pub record GivenValuesAreRead : Type 0 where
+  -- the cubes that are bounded are the cubes, and none is not
+  pub bounded : (d : ℕ) → 1 ≤ d → (u : Thing)
+      → Denotes (with_value (shape (cube_shape d)) Bounded (truth true)) u ↔ Denotes (shape (cube_shape d)) u
+  pub unbounded : (d : ℕ) → 1 ≤ d → (u : Thing)
+      → ¬ (Denotes (with_value (shape (cube_shape d)) Bounded (truth false)) u)
+  -- no other dimension is stated, and no other column count of a matrix without rows
+  pub other_columns : (d n : ℕ) (u : Thing) → ¬ (n ≡ suc d)
+      → ¬ (Denotes (with_value (shape (cube_shape d)) ConeAmbientDim (whole (pos n))) u)
+  pub other_matrix : (u : Thing)
+      → ¬ (Denotes (with_value (shape (cube_shape 1)) LinealitySpace (matrix 3 [])) u)
+  -- of which properties a lineage knows
+  pub numbers : keeps_lineage NVertices ≡ true
+  pub sites : keeps_lineage Sites ≡ true
+  pub vertices : keeps_lineage Vertices ≡ false
+  pub facets : keeps_lineage Facets ≡ false
+  pub points : keeps_lineage Points ≡ false
+  pub equations : keeps_lineage Equations ≡ false
 
 -- the lineage of d after `make c cube n`, `polar c d`: no objective was given
 abbrev pub polar_of_cube : ℕ → Lineage
@@ -64,7 +86,15 @@ pub record ProvenancesAreRead : Type 0 where
       → provenances_after (build_object (One Polar) (codes "c" ∷ []) (codes "d")) (refused NoChain nothing) m k ≡ k
   pub copied : (m : Machine) (k : Provenances) (t : Rounds)
       → provenances_after (copy_object (codes "d") (codes "e")) (done t) m k (codes "e") ≡ k (codes "d")
-  -- what is given to d itself makes d one of its values; what is given to a program of d does not
+  -- a truth value that is given to d itself leaves d the polar, of which it is right
+  pub told : (m : Machine) (k : Provenances) (t : Rounds) (json : List ℕ) (o : State) (l : Lineage)
+      → m.object (codes "d") ≡ Some o → o.of ≡ Polytope → k (codes "d") ≡ made l
+      → value_of Bounded (read_at None o.held) ≡ Some (truth true)
+      → provenances_after (take_value object_d (codes "BOUNDED") json) (done t) m k (codes "d")
+      ≡ made (with_value l Bounded (truth true))
+  -- VERTICES and POINTS make d one of its values; what is given to a program of d does not
+  pub ordered : (m : Machine) (k : Provenances) (t : Rounds) (json : List ℕ)
+      → provenances_after (take_value object_d (codes "VERTICES") json) (done t) m k (codes "d") ≡ of_its_values
   pub taken : (m : Machine) (k : Provenances) (t : Rounds) (json : List ℕ)
       → provenances_after (take_value object_d (codes "POINTS") json) (done t) m k (codes "d") ≡ of_its_values
   pub objective : (m : Machine) (k : Provenances) (t : Rounds) (json : List ℕ)

@@ -1,21 +1,24 @@
 -- How the object of each name came, along a run.
-use Rattle.std.specs.Prelude.{ℕ, ◌≡◌, List, [], ◌∷◌, filter, if◌then◌else◌, IfSome, map, None, Option, Some}
+use Rattle.std.specs.Prelude.{ℕ, ◌≡◌, ◌&&◌, Bool, not, List, [], ◌∷◌, filter, if◌then◌else◌, IfSome, map, None, Option, Some}
 use Rattle.std.specs.Option.{is_some, option_map}
 use Rattle.std.specs.Str.{bytes_eq}
 use Rattle.pm_command.specs.Commands.{Spoken, new_object, take_value, copy_object, load_object, save_object, make_object, build_object}
 use Rattle.pm_command.specs.declared.building.Builder.{Builder}
 use Rattle.pm_command.specs.declared.building.Builder.TheVariants.{One, Two}
 use Rattle.pm_geom.specs.Things.{Orders}
-use Rattle.pm_laws_lineage.specs.Lineages.{Denotes, Lineage, given, one, shape, two, with_objectives}
+use Rattle.pm_laws_lineage.specs.Lineages.{Denotes, Lineage, given, one, shape, two, with_objectives, with_value}
 use Rattle.pm_machine.specs.Machines.{Machine}
 use Rattle.pm_object.specs.Honest.{based, facts}
 use Rattle.pm_machine.specs.Steps.{bytes_of}
-use Rattle.pm_object.specs.State.{HeldValue, State, names_to_settle}
+use Rattle.pm_object.specs.State.{HeldValue, State, names_to_settle, read_at, value_of}
+use Rattle.pm_props.specs.Names.{property_named_in}
+use Rattle.pm_props.specs.Properties.{facets_tag, generators_tag, half_spaces_tag, rays_tag}
 use Rattle.pm_props.specs.declared.property.PropId.{PropId}
 use Rattle.pm_rules.specs.declared.rule.Rule.{Rule}
 use Rattle.pm_script.specs.Replies.{ReplySeen, done, loaded}
 use Rattle.pm_types.specs.Right.{RightAll}
 use Rattle.pm_types.specs.Things.{Thing}
+use Rattle.pm_types.specs.Values.{PropertyValue}
 
 -- an object stands for what its given and stored values are right for; or it was made by a command, so
 pub data Provenance : Type 0 where
@@ -49,11 +52,28 @@ provenance_of (One b) (Some l ∷ []) = made (one b l)
 provenance_of (Two b) (Some l ∷ Some k ∷ []) = made (two b l k)
 provenance_of b ls = of_its_values
 
--- what is given to an object itself makes it one of its values, whatever it was before; an objective that is given to
--- a linear program of it does not
-abbrev pub after_taking : List ℕ → Option (List ℕ) → Provenances → Provenances
-after_taking name None provenances = put name of_its_values provenances
-after_taking name (Some sub) provenances = provenances
+-- values of the property speak of no order, and are no half of a description
+abbrev pub keeps_lineage : PropId → Bool
+keeps_lineage p = not (rays_tag p) && not (facets_tag p) && not (generators_tag p) && not (half_spaces_tag p)
+
+-- what was made of that lineage, with this value of the property
+abbrev pub made_with : Lineage → PropId → Option PropertyValue → Provenance
+made_with l p None = of_its_values
+made_with l p (Some v) = made (with_value l p v)
+
+-- Where the object holds now what was given to it itself: what was made keeps its lineage, with the value, if the
+-- property allows it; else the object is one of its values, whatever it was before.
+abbrev pub provenance_given : Provenance → Option PropId → State → Provenance
+provenance_given (made l) (Some p) o = if keeps_lineage p then made_with l p (value_of p (read_at None o.held))
+    else of_its_values
+provenance_given provenance p o = of_its_values
+
+-- a property that this text names was given to the object itself, or an objective to a linear program of it
+abbrev pub after_taking : List ℕ → Option (List ℕ) → List ℕ → Option State → Provenances → Provenances
+after_taking name None text (Some o) provenances =
+    put name (provenance_given (provenances name) (property_named_in o.of text) o) provenances
+after_taking name None text None provenances = put name of_its_values provenances
+after_taking name (Some sub) text o provenances = provenances
 
 abbrev pub after_new : List ℕ → Option (List ℕ) → Provenances → Provenances
 after_new name None provenances = put name of_its_values provenances
@@ -62,7 +82,8 @@ after_new name (Some sub) provenances = provenances
 -- after a command with this reply, and the machine as it is then; what is loaded has a place of its own, below
 abbrev pub provenances_after : Spoken → ReplySeen → Machine → Provenances → Provenances
 provenances_after (new_object ref text) (done t) m provenances = after_new ref.name ref.sub provenances
-provenances_after (take_value ref text json) (done t) m provenances = after_taking ref.name ref.sub provenances
+provenances_after (take_value ref text json) (done t) m provenances =
+    after_taking ref.name ref.sub text (m.object ref.name) provenances
 provenances_after (copy_object name to) (done t) m provenances = put to (provenances name) provenances
 provenances_after (make_object to s) (done t) m provenances = put to (made (shape s)) provenances
 provenances_after (build_object b names to) (done t) m provenances =

@@ -2,7 +2,7 @@
 //! has no code.
 #![tactic(auto)]
 
-ghost use Rattle.pm_laws_lineage.specs.Examples.{FilesAreRead, ProvenancesAreRead, PolarOfCubeIsShown, PolarsOfCubesAreCrosses};
+ghost use Rattle.pm_laws_lineage.specs.Examples.{FilesAreRead, GivenValuesAreRead, ProvenancesAreRead, PolarOfCubeIsShown, PolarsOfCubesAreCrosses};
 ghost use Rattle.pm_laws_lineage.specs.Laws.{RunsKeepLineage, ShownIsRight};
 ghost use Rattle.pm_laws_lineage.specs.Runs.{RunKeepsLineage};
 ghost use Rattle.pm_laws_lineage.specs.Saved.{EnsuredIsSaid, LoadedAgainIsRight, LoadedAgainStands, StandardKindsKeepHalves};
@@ -53,6 +53,11 @@ pub fn example_polars_of_cubes()
 /// After `make c cube n` and `polar c d` the VERTICES of d are right for each cross-polytope.
 pub fn example_polar_of_cube()
     ensures { PolarOfCubeIsShown }
+{}
+
+/// What a value that is given to a cube itself says of it, and of which properties a lineage knows.
+pub fn example_given_values()
+    ensures { GivenValuesAreRead }
 {}
 
 /// How objects came in a short run.
