@@ -87,7 +87,7 @@ read_of type ps m n a at r =
 
 module _ (laws : BuildLaws) (book : List Rule) (provenances : Provenances) where
   -- ---- ensuring
-  one_keeps : (w : Wanted) (e : Ending) (rounds : List RoundSeen) (old new : Machine) → EnsuresOne book w e rounds old new → AllInLine provenances old → AllInLine provenances new
+  pub one_keeps : (w : Wanted) (e : Ending) (rounds : List RoundSeen) (old new : Machine) → EnsuresOne book w e rounds old new → AllInLine provenances old → AllInLine provenances new
   one_keeps w e rounds old new it all =
       one_line provenances w.name it.now.object old new it.becomes.object it.becomes.others
       (in_line_ensured book (provenances w.name) None (only w.property) e (configuration it.object old.clients) it.now it.ensured (line_at provenances old w.name it.object it.named all)) all

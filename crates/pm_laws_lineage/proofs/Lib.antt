@@ -11,6 +11,7 @@ pub mod Lines
 pub mod Building
 pub mod Saved
 pub mod Steps
+pub mod Parts
 pub mod Laws
 pub mod Cubes
 pub mod Examples

@@ -2,7 +2,7 @@
 use Rattle.pm_geom.specs.Things.{Orders}
 use Rattle.pm_laws_things.specs.BuildingLaws.{ReadRight}
 use Rattle.pm_laws_things.specs.FanLaws.{ReadRightFan}
-use Rattle.pm_laws_lineage.proofs.Sound.{KnowsDimension, Sound, sound_held}
+use Rattle.pm_laws_lineage.proofs.Sound.{KnowsDimension, Sound, SoundHeld, sound_held}
 use Rattle.pm_laws_lineage.specs.Provenances.{Provenance, StandsFor, lineage_of, made, of_its_values}
 use Rattle.pm_laws_lineage.specs.Laws.{ShownIsRight}
 use Rattle.pm_making.specs.Made.{IsRead}
@@ -28,14 +28,17 @@ use Rattle.std.specs.Prelude.{Bool, List, None, Option, Some, [], if◌then◌el
 use lib.IntN.{pos}
 
 -- ---- all values
-pub stands_for : (provenance : Provenance) (o : State) → IsHonest o → Sound provenance o → StandsFor (lineage_of provenance o) o
-stands_for of_its_values o honest s = record { right = λ u d. let (of, p, r) = d in let a = honest.answer u p of r in (of, a.orders, a.right) }
-stands_for (made l) o honest s = record {
+pub held_stands_for : (provenance : Provenance) (o : State) → IsHonest o → SoundHeld provenance o → StandsFor (lineage_of provenance o) o
+held_stands_for of_its_values o honest s = record { right = λ u d. let (of, p, r) = d in let a = honest.answer u p of r in (of, a.orders, a.right) }
+held_stands_for (made l) o honest s = record {
   right = λ u d.
-      let (of, p, r) = sound_held (made l) o s u d in
+      let (of, p, r) = s u d in
       let a = honest.answer u p of r in
       (of, a.orders, a.right);
 }
+
+pub stands_for : (provenance : Provenance) (o : State) → IsHonest o → Sound provenance o → StandsFor (lineage_of provenance o) o
+stands_for provenance o honest s = held_stands_for provenance o honest (sound_held provenance o s)
 
 -- ---- one value
 right_at : (held : List HeldValue) (t : Thing) (p : Orders) (h : HeldValue) → RightAll (facts held) t p → Among h held → Right h.property h.value t p (objective_of t h.place)

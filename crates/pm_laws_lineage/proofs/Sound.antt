@@ -12,7 +12,7 @@ use Rattle.pm_object_type.specs.declared.object_type.ObjectType.{ObjectType}
 use Rattle.pm_props.specs.declared.kind.RuleId.{RuleId}
 use Rattle.pm_props.specs.declared.property.PropId.TheVariants.{ConeAmbientDim}
 use Rattle.pm_props.specs.declared.set.PropSet.{PropSet}
-use Rattle.pm_rounds.specs.Events.{Configuration, Ensured, Event, IsTrace, MayOccur, Phase, after_event, after_events, at_rest, begun, committed, excluded, over, phase_after, phase_after_all, running, settled, started, turn, turns, unsettled, written}
+use Rattle.pm_rounds.specs.Events.{Configuration, Ensured, EnsuredInPart, Event, IsTrace, MayOccur, Phase, after_event, after_events, at_rest, begun, committed, excluded, over, phase_after, phase_after_all, running, settled, started, turn, turns, unsettled, written}
 use Rattle.pm_rounds.specs.declared.round.Ending.{Ending}
 use Rattle.pm_rules.specs.declared.rule.Rule.{Rule}
 use Rattle.pm_types.specs.Right.{RightAll}
@@ -114,6 +114,17 @@ events_keep : (provenance : Provenance) (book : List Rule) (sub : Option ℕ) (a
     → InPhase provenance phase c.object → InPhase provenance (phase_after_all phase events) (after_events sub events c).object
 events_keep provenance book sub asked phase c [] trace s = s
 events_keep provenance book sub asked phase c (e ∷ events) (may, trace) s = events_keep provenance book sub asked (phase_after phase e) (after_event sub e c) events trace (event_keeps provenance book sub asked phase c e may s)
+
+-- in every phase the given and stored values are so
+held_in_phase : (provenance : Provenance) (phase : Phase) (o : State) → InPhase provenance phase o → SoundHeld provenance o
+held_in_phase provenance unsettled o s = sound_held provenance o s.0
+held_in_phase provenance at_rest o s = sound_held provenance o s.0
+held_in_phase provenance phase o s = s.0
+
+pub ensured_in_part_keeps : (provenance : Provenance) (book : List Rule) (sub : Option ℕ) (asked : PropSet) (old new : Configuration) → EnsuredInPart book sub asked old new → Sound provenance old.object → KnowsDimension old.object → SoundHeld provenance new.object
+ensured_in_part_keeps provenance book sub asked old new (phase, part) s knows =
+    subst (λ (c : Configuration). SoundHeld provenance c.object) (sym part.becomes)
+    (held_in_phase provenance (phase_after_all unsettled part.events) (after_events sub part.events old).object (events_keep provenance book sub asked unsettled old part.events part.trace (s, knows)))
 
 pub ensured_keeps : (provenance : Provenance) (book : List Rule) (sub : Option ℕ) (asked : PropSet) (ending : Ending) (old new : Configuration) → Ensured book sub asked ending old new
     → Sound provenance old.object → KnowsDimension old.object → Sound provenance new.object × KnowsDimension new.object

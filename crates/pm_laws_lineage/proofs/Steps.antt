@@ -60,7 +60,7 @@ part_object o (Some name) x e = by (place_named name o) e
     by None h = absurd (some_not_none (sym h))
     by (Some s) h = ap (λ (z : Named). z.object) (sym (some_is h))
 
-named_object : (m : Machine) (ref : RefSeen) (x : Named) → named_at (shelf m) ref ≡ Some x → m.object ref.name ≡ Some x.object
+pub named_object : (m : Machine) (ref : RefSeen) (x : Named) → named_at (shelf m) ref ≡ Some x → m.object ref.name ≡ Some x.object
 named_object m ref x e =
     let (o, at, part) = and_then_some (λ o. part_named o ref.sub) (m.object ref.name) x e in
     at ∙ ap Some (sym (part_object o ref.sub x part))

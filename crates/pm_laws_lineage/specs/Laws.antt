@@ -7,6 +7,7 @@ use Rattle.pm_filing.specs.Filing.{loaded_object}
 use Rattle.pm_laws_lineage.specs.Provenances.{AllStandFor, Records, Provenances, StandsFor, records_after}
 use Rattle.pm_laws_lineage.specs.Lineages.{Denotes, Lineage}
 use Rattle.pm_machine.specs.Machines.{Machine}
+use Rattle.pm_machine.specs.Parts.{StepInPart}
 use Rattle.pm_machine.specs.Steps.{HasBytes, Step}
 use Rattle.pm_object.specs.State.{State, read_at, value_of}
 use Rattle.pm_props.specs.declared.property.PropId.{PropId}
@@ -40,6 +41,14 @@ abbrev pub RunsKeepLineage : Type 0
 RunsKeepLineage = (book : List Rule) (start end : Machine) (provenances : Provenances) (later : Records)
     (run : List (Spoken × ReplySeen)) → ((q : List ℕ) → start.object q ≡ None)
     → Leads book start (new_records provenances) run end later → AllStandFor later.provenances end
+
+-- So it is where memory runs out in the command that comes next, whatever part of it happened: each object stands for
+-- what it stood for before.
+abbrev pub StepsInPartKeepLineage : Type 0
+StepsInPartKeepLineage = (book : List Rule) (start old new : Machine) (provenances : Provenances) (later : Records)
+    (run : List (Spoken × ReplySeen)) (command : Spoken) → ((q : List ℕ) → start.object q ≡ None)
+    → Leads book start (new_records provenances) run old later → StepInPart book old command new
+    → AllStandFor later.provenances new
 
 -- a value that such an object holds is right, in some orders, for each thing that its lineage denotes
 abbrev pub ShownIsRight : Type 0

@@ -3,7 +3,7 @@
 #![tactic(auto)]
 
 ghost use Rattle.pm_laws_lineage.specs.Examples.{FilesAreRead, GivenValuesAreRead, ProvenancesAreRead, PolarOfCubeIsShown, PolarsOfCubesAreCrosses};
-ghost use Rattle.pm_laws_lineage.specs.Laws.{RunsKeepLineage, ShownIsRight};
+ghost use Rattle.pm_laws_lineage.specs.Laws.{RunsKeepLineage, ShownIsRight, StepsInPartKeepLineage};
 ghost use Rattle.pm_laws_lineage.specs.Runs.{RunKeepsLineage};
 ghost use Rattle.pm_laws_lineage.specs.Saved.{EnsuredIsSaid, LoadedAgainIsRight, LoadedAgainStands, StandardKindsKeepHalves};
 
@@ -17,6 +17,11 @@ pub fn law_runs_keep_lineage()
 /// that its lineage denotes, for the polars of what c stood for where it was made by `polar c d`.
 pub fn law_run_keeps_lineage()
     ensures { RunKeepsLineage }
+{}
+
+/// Where memory runs out in the command that comes after such a run, each object stands for what it stood for.
+pub fn law_steps_in_part_keep_lineage()
+    ensures { StepsInPartKeepLineage }
 {}
 
 /// A value that an object holds is right, in some orders, for each thing that the object stands for.
