@@ -8,12 +8,14 @@ use Rattle.pm_laws_things.proofs.OrdersExist.{orders_exist}
 use Rattle.pm_laws_things.specs.BuildingExamples.{unit_segment}
 use Rattle.pm_laws_lineage.proofs.Cubes.{cube_is_bounded, polar_points}
 use Rattle.pm_laws_lineage.proofs.Reading.{shown_is_right}
-use Rattle.pm_props.specs.declared.property.PropId.TheVariants.{Bounded, LinealitySpace, Vertices}
+use Rattle.pm_laws_lineage.proofs.Savable.{savable_one}
+use Rattle.pm_props.specs.declared.property.PropId.TheVariants.{Bounded, Facets, LinealitySpace, Points, Vertices}
 use Rattle.std.proofs.lemmas.List.Elements.{All-nil}
 use Rattle.pm_laws_lineage.specs.Examples.{FilesAreRead, GivenValuesAreRead, ProvenancesAreRead, PolarOfCubeIsShown, PolarsOfCubesAreCrosses, polar_of_cube}
 use Rattle.pm_laws_lineage.specs.Provenances.{Provenance, Provenances, after_taking, keeps_lineage, lineage_of, made, made_with, of_its_values, provenance_given, provenance_of}
 use Rattle.pm_laws_lineage.specs.Lineages.{Denotes, IsObjectiveOf, Lineage, one, shape, with_value}
 use Rattle.pm_limits.specs.Limits.{most_dimensions}
+use Rattle.pm_object.specs.Known.{cols_at, rows_at}
 use Rattle.pm_object.specs.State.{State, read_at, value_of}
 use Rattle.pm_object_type.specs.declared.object_type.ObjectType.{ObjectType}
 use Rattle.pm_object_type.specs.declared.object_type.ObjectType.TheVariants.{Cone, Fan, Polytope}
@@ -154,6 +156,12 @@ files_are_read = record {
   latest = λ l k. refl;
   said = λ s. refl;
   unsaid = λ s. refl;
+  unasked = λ o. savable_one Points (cols_at o) (rows_at Facets o) refl;
+  empty = λ of r. refl;
+  asked = λ of r. refl;
+  not_asked = λ of. refl;
+  two_counts = λ of. refl;
+  known_count = λ of. refl;
   both_halves = refl;
   one_half = refl;
 }

@@ -17,3 +17,4 @@ pub mod Cubes
 pub mod Examples
 pub mod Saying
 pub mod Runs
+pub mod Savable

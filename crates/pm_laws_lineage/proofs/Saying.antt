@@ -208,7 +208,7 @@ module _ (o : State) (sub : Option ℕ) (kind : Kind) (n : ℕ) (answer : List F
 settled_places : (n : ℕ) (ps : List PropId) (h : HeldValue) → Among h (map (settled_at n) ps) → h.place ≡ None
 settled_places n ps h i = let (p, j, is) = map_among (settled_at n) ps i in ap (λ (z : HeldValue). z.place) is
 
-settling_says : (o : State) → IsSaidOnce o → IsSaid (with_held o (settling o))
+pub settling_says : (o : State) → IsSaidOnce o → IsSaid (with_held o (settling o))
 settling_says o s = record {
   nothing = by (has_rounds o) refl;
   placed = λ h i own. elim (among_append o.held (settling o) (among_Contains _ i)) [

@@ -3,10 +3,10 @@ use Rattle.pm_laws_lineage.proofs.Building.{built_line, ends_keep, all_keep, sha
 use Rattle.pm_laws_lineage.proofs.Builds.{BuildLaws}
 use Rattle.pm_laws_lineage.proofs.Lines.{AllInLine, InLine, all_stand, in_line_disabled, in_line_empty, in_line_ensured, in_line_loaded, in_line_stands, in_line_given, in_line_objective, in_line_program, in_line_settled, line_at, new_line, one_line, same_line}
 use Rattle.pm_laws_lineage.proofs.Facts.{right_of_fewer}
-use Rattle.pm_laws_lineage.proofs.Saved.{loaded_again_stands}
+use Rattle.pm_laws_lineage.proofs.Savable.{loaded_unasked_stands}
 use Rattle.pm_laws_lineage.proofs.Sound.{Sound}
 use Rattle.pm_laws_lineage.proofs.Twice.{settling_twice}
-use Rattle.pm_laws_lineage.specs.Provenances.{AllStandFor, Records, Provenance, Provenances, StandsFor, after_new, after_taking, records_after, provenance_loaded, provenances_after, lineage_of, made, of_its_values, saved_at, saved_if}
+use Rattle.pm_laws_lineage.specs.Provenances.{AllStandFor, Records, Provenance, Provenances, StandsFor, after_new, after_taking, records_after, provenance_loaded, provenances_after, lineage_of, made, of_its_values, is_savable, saved_at, saved_if, saving}
 use Rattle.pm_laws_lineage.specs.Laws.{HasRead, Leads, new_records}
 use Rattle.pm_laws_lineage.specs.Lineages.{Lineage}
 use Rattle.pm_files.specs.Files.{SavedFile}
@@ -27,7 +27,7 @@ use Rattle.pm_machine.specs.Machines.{Machine, Stays, shelf}
 use Rattle.pm_machine.specs.Steps.{CopyStep, IsSavedWhole, bytes_of, DisableStep, DropStep, EnsureStep, EnsuredAll, Ensures, EvidenceStep, ExplainStep, ExplainedAll, Gave, GiveStep, Gives, HistoryStep, LoadStep, LookupStep, Named, NewObjectStep, NewOf, NewProgramStep, OriginStep, RulesStep, SaveStep, ShowStep, Step, TakeStep, TakeValue, UnloadStep, disabling, named_at, part_named, property_at, settled_object}
 use Rattle.pm_machine.specs.Steps as steps
 use Rattle.pm_making.specs.Rows.{row_of}
-use Rattle.pm_object.specs.State.{HeldValue, State, given_at, is_disabled, names_to_settle, place_named, take_refusal, with_disabled, with_held}
+use Rattle.pm_object.specs.State.{HeldValue, State, given_at, is_disabled, place_named, take_refusal, with_disabled, with_held}
 use Rattle.pm_props.specs.Sets.{only as only_property}
 use Rattle.pm_props.specs.declared.property.PropId.{PropId}
 use Rattle.pm_props.specs.declared.set.PropSet.{PropSet}
@@ -112,20 +112,20 @@ loaded_sound book (s ∷ saved) bytes f all reads = elim (decide (bytes_eq s.0 b
 ]
 
 -- an object in line is saved
-object_saved : (book : List Rule) (provenance : Provenance) (o : State) (saved : List (List ℕ × Lineage)) → InLine provenance o → IsSavedWhole book o → AllSaved book saved → AllSaved book (saved_if (names_to_settle o.held) (bytes_of book o, lineage_of provenance o) saved)
-object_saved book provenance o saved line whole all = by (names_to_settle o.held) refl
+object_saved : (book : List Rule) (provenance : Provenance) (o : State) (saved : List (List ℕ × Lineage)) → InLine provenance o → IsSavedWhole book o → AllSaved book saved → AllSaved book (saved_if (is_savable o) (saving book provenance o) saved)
+object_saved book provenance o saved line whole all = by (is_savable o) refl
   where
-    by : (ps : List PropId) → names_to_settle o.held ≡ ps → AllSaved book (saved_if ps (bytes_of book o, lineage_of provenance o) saved)
-    by (p ∷ ps) e = all
-    by [] e = λ b l i f reads. at (b, l) i f reads
+    by : (t : Bool) → is_savable o ≡ t → AllSaved book (saved_if t (saving book provenance o) saved)
+    by false e = all
+    by true e = λ b l i f reads. at (b, l) i f reads
       where
-        new : (f : SavedFile) → Reads (bytes_of book o) f → StandsFor (lineage_of provenance o) (loaded_object book f)
+        new : (f : SavedFile) → Reads (bytes_of book o) f → StandsFor (lineage_of provenance (settled_object o)) (loaded_object book f)
         new f reads =
             let (g, is, again) = whole in
-            subst (λ z. StandsFor (lineage_of provenance o) (loaded_object book z)) (readings_are_unique.one_file (bytes_of book o) g f is reads)
-            (loaded_again_stands book o g (lineage_of provenance o) (in_line_stands provenance o line) (record { nothing = e; placed = λ h i own. line.placed h (among_Contains o.held i) own }) again)
+            subst (λ z. StandsFor (lineage_of provenance (settled_object o)) (loaded_object book z)) (readings_are_unique.one_file (bytes_of book o) g f is reads)
+            (loaded_unasked_stands book o g (lineage_of provenance (settled_object o)) (in_line_stands provenance (settled_object o) (in_line_settled book provenance o line)) e (λ h i own. line.placed h (among_Contains o.held i) own) again)
 
-        at : (s : List ℕ × Lineage) → Among s ((bytes_of book o, lineage_of provenance o) ∷ saved) → (f : SavedFile) → Reads s.0 f → StandsFor s.1 (loaded_object book f)
+        at : (s : List ℕ × Lineage) → Among s ((bytes_of book o, lineage_of provenance (settled_object o)) ∷ saved) → (f : SavedFile) → Reads s.0 f → StandsFor s.1 (loaded_object book f)
         at _ here f reads = new f reads
         at s (there i) f reads = all s.0 s.1 i f reads
 

@@ -1,15 +1,18 @@
 -- Lineages read: what they denote, and what they do not; and how objects came in a short run.
 use Rattle.std.specs.Prelude.{ℕ, ◌≡◌, ◌↔◌, ◌≤◌, ◌∷◌, [], List, None, Some, codes, false, suc, true}
+use Rattle.pm_build.specs.Objects.{polar_of}
 use Rattle.pm_command.specs.Commands.{RefSeen, build_object, copy_object, cross_shape, cube_shape, drop_object, make_object, new_object, take_value}
 use Rattle.pm_command.specs.declared.building.Builder.TheVariants.{One}
 use Rattle.pm_command.specs.declared.building.Unary.TheVariants.{Polar}
 use Rattle.pm_laws_things.specs.BuildingExamples.{unit_segment}
-use Rattle.pm_laws_lineage.specs.Provenances.{Provenances, StandsFor, keeps_lineage, provenance_loaded, provenances_after, lineage_of, made, of_its_values, saved_if}
+use Rattle.pm_laws_lineage.specs.Provenances.{Provenances, StandsFor, is_savable, keeps_lineage, provenance_loaded, provenances_after, lineage_of, made, of_its_values, saved_if}
 use Rattle.pm_laws_lineage.specs.Lineages.{Denotes, Lineage, one, shape, with_objectives, with_value}
 use Rattle.pm_laws_lineage.specs.Saved.{keeps_halves}
 use Rattle.pm_limits.specs.Limits.{most_dimensions}
 use Rattle.pm_machine.specs.Machines.{Machine}
-use Rattle.pm_object.specs.State.{State, read_at, value_of}
+use Rattle.pm_making.specs.Rows.{object_of}
+use Rattle.pm_object.specs.State.{HeldValue, RoundSeen, State, empty_object, given_at, read_at, settled, value_of, with_held, with_round}
+use Rattle.pm_object_type.specs.declared.object_type.ObjectType.{ObjectType}
 use Rattle.pm_object_type.specs.declared.object_type.ObjectType.TheVariants.{Polytope}
 use Rattle.pm_props.specs.Kinds.{finding}
 use Rattle.pm_props.specs.declared.property.PropId.TheVariants.{Bounded, ConeAmbientDim, Equations, Facets, Inequalities, InputLineality, LinealitySpace, NVertices, Points, Sites, Vertices}
@@ -105,6 +108,17 @@ pub record ProvenancesAreRead : Type 0 where
   pub anew : (m : Machine) (k : Provenances) (t : Rounds)
       → provenances_after (new_object object_c (codes "Cone")) (done t) m k (codes "d") ≡ k (codes "d")
 
+-- an object that knows its dimension, and holds no more; one that holds INEQUALITIES too; and POINTS in 3 columns with
+-- INEQUALITIES in 4
+abbrev pub empty_of : ObjectType → State
+empty_of of = with_held (empty_object of) (settled 3 ConeAmbientDim ∷ [])
+
+abbrev pub half_of : ObjectType → State
+half_of of = with_held (empty_of of) (given_at None Inequalities (matrix 3 []) ∷ [])
+
+abbrev pub two_values : List HeldValue
+two_values = given_at None Points (matrix 3 []) ∷ given_at None Inequalities (matrix 4 []) ∷ []
+
 -- what is loaded, and which kinds leave nothing unsaid
 pub record FilesAreRead : Type 0 where
   -- of bytes that were saved, and of others
@@ -113,9 +127,18 @@ pub record FilesAreRead : Type 0 where
   -- the latest of the same bytes
   pub latest : (l k : Lineage) → provenance_loaded ((codes "ab", l) ∷ (codes "ab", k) ∷ []) (codes "ab")
       ≡ made l
-  -- the lineage is not kept where something goes without saying
-  pub said : (s : List ℕ × Lineage) → saved_if [] s [] ≡ s ∷ []
-  pub unsaid : (s : List ℕ × Lineage) → saved_if (Equations ∷ []) s [] ≡ []
+  -- the lineage is not kept where the object is not savable
+  pub said : (s : List ℕ × Lineage) → saved_if true s [] ≡ s ∷ []
+  pub unsaid : (s : List ℕ × Lineage) → saved_if false s [] ≡ []
+  -- a polar of which nothing was asked is savable, and so is an object of which nothing goes without saying
+  pub unasked : (o : State) → is_savable (object_of (polar_of o)) ≡ true
+  pub empty : (of : ObjectType) (r : RoundSeen) → is_savable (with_round (empty_of of) r) ≡ true
+  -- one for which a round was started, and that holds no EQUATIONS beside its INEQUALITIES, is not
+  pub asked : (of : ObjectType) (r : RoundSeen) → is_savable (with_round (half_of of) r) ≡ false
+  pub not_asked : (of : ObjectType) → is_savable (half_of of) ≡ true
+  -- values of two column counts leave the count open, but not where the dimension is held
+  pub two_counts : (of : ObjectType) → is_savable (with_held (empty_object of) two_values) ≡ false
+  pub known_count : (of : ObjectType) → is_savable (with_held (empty_of of) two_values) ≡ true
   -- a client that finds INEQUALITIES without EQUATIONS leaves that there are none to be filled in
   pub both_halves : keeps_halves (finding (codes "x") (Inequalities ∷ Equations ∷ []) (Points ∷ InputLineality ∷ []))
       ≡ true

@@ -1,19 +1,22 @@
 -- How the object of each name came, along a run.
-use Rattle.std.specs.Prelude.{ℕ, ◌≡◌, ◌&&◌, Bool, not, List, [], ◌∷◌, filter, if◌then◌else◌, IfSome, map, None, Option, Some}
+use Rattle.std.specs.Prelude.{ℕ, ◌≡◌, ◌&&◌, ◌||◌, Bool, false, true, length, nat_eq, not, List, [], ◌∷◌, filter, if◌then◌else◌, IfSome, map, None, Option, Some}
+use Rattle.std.specs.List.{list_all}
 use Rattle.std.specs.Option.{is_some, option_map}
 use Rattle.std.specs.Str.{bytes_eq}
 use Rattle.pm_command.specs.Commands.{Spoken, new_object, take_value, copy_object, load_object, save_object, make_object, build_object}
 use Rattle.pm_command.specs.declared.building.Builder.{Builder}
 use Rattle.pm_command.specs.declared.building.Builder.TheVariants.{One, Two}
+use Rattle.pm_filing.specs.Whole.{is_kept}
 use Rattle.pm_geom.specs.Things.{Orders}
 use Rattle.pm_laws_lineage.specs.Lineages.{Denotes, Lineage, given, one, shape, two, with_objectives, with_value}
 use Rattle.pm_machine.specs.Machines.{Machine}
 use Rattle.pm_object.specs.Honest.{based, facts}
-use Rattle.pm_machine.specs.Steps.{bytes_of}
-use Rattle.pm_object.specs.State.{HeldValue, State, names_to_settle, read_at, value_of}
+use Rattle.pm_machine.specs.Steps.{bytes_of, settled_object}
+use Rattle.pm_object.specs.State.{HeldValue, State, agrees, cols_of, has_rounds, is_held, names_to_settle, read_at, value_of}
 use Rattle.pm_props.specs.Names.{property_named_in}
 use Rattle.pm_props.specs.Properties.{facets_tag, generators_tag, half_spaces_tag, rays_tag}
 use Rattle.pm_props.specs.declared.property.PropId.{PropId}
+use Rattle.pm_props.specs.declared.property.PropId.TheVariants.{ConeAmbientDim}
 use Rattle.pm_rules.specs.declared.rule.Rule.{Rule}
 use Rattle.pm_script.specs.Replies.{ReplySeen, done, loaded}
 use Rattle.pm_types.specs.Right.{RightAll}
@@ -91,6 +94,16 @@ provenances_after (build_object b names to) (done t) m provenances =
 provenances_after command reply m provenances = provenances
 
 -- ---- files
+-- each value goes into the file of the object, and states no other column count than the object's
+abbrev pub states_one_count : List HeldValue → Bool
+states_one_count held = list_all (λ h. is_kept h && agrees (cols_of held) h.property h.value) held
+
+-- What goes without saying of the object is filled in alike in what is loaded of its file: nothing does; or no round
+-- was started, and the column count, where it is to be filled in, is that of each value.
+abbrev pub is_savable : State → Bool
+is_savable o = nat_eq (length (names_to_settle o.held)) 0
+    || (not (has_rounds o) && (is_held ConeAmbientDim o.held || states_one_count o.held))
+
 -- how the objects came; and the bytes that were saved, the latest first, each with the lineage of the object then
 pub record Records : Type 0 where
   pub provenances : Provenances
@@ -102,16 +115,20 @@ abbrev pub provenance_loaded : List (List ℕ × Lineage) → List ℕ → Prove
 provenance_loaded [] bytes = of_its_values
 provenance_loaded (s ∷ saved) bytes = if bytes_eq s.0 bytes then made s.1 else provenance_loaded saved bytes
 
--- the object is saved, where nothing goes without saying of what it holds; else its lineage is not kept
-abbrev pub saved_if : List PropId → List ℕ × Lineage → List (List ℕ × Lineage) → List (List ℕ × Lineage)
-saved_if [] s saved = s ∷ saved
-saved_if (p ∷ unsaid) s saved = saved
+-- the lineage of an object that is saved is kept where the object is savable
+abbrev pub saved_if : Bool → List ℕ × Lineage → List (List ℕ × Lineage) → List (List ℕ × Lineage)
+saved_if true s saved = s ∷ saved
+saved_if false s saved = saved
+
+-- the bytes of the object's file, and the lineage of the object with what goes without saying of it
+abbrev pub saving : List Rule → Provenance → State → List ℕ × Lineage
+saving book provenance o = (bytes_of book o, lineage_of provenance (settled_object o))
 
 abbrev pub saved_at : List Rule → Provenance → Option State → List (List ℕ × Lineage) → List (List ℕ
     × Lineage)
 saved_at book provenance None saved = saved
 saved_at book provenance (Some o) saved =
-    saved_if (names_to_settle o.held) (bytes_of book o, lineage_of provenance o) saved
+    saved_if (is_savable o) (saving book provenance o) saved
 
 -- after a command with this reply, where it has read these bytes if it loads, and the machine as it is then
 abbrev pub records_after : List Rule → List ℕ → Spoken → ReplySeen → Machine → Records → Records

@@ -1,13 +1,17 @@
 -- An object that is saved and loaded again.
 use Rattle.std.specs.Prelude.{ℕ, ◌≡◌, ◌&&◌, ◌||◌, Bool, IsTrue, false, true, not, List, [], None, Option, Some}
 use Rattle.std.specs.List.{All, Contains}
+use Rattle.pm_command.specs.Commands.{ShapeSeen}
+use Rattle.pm_command.specs.declared.building.Builder.{Builder}
 use Rattle.pm_files.specs.Files.{SavedFile}
 use Rattle.pm_filing.specs.Filing.{loaded_object}
 use Rattle.pm_filing.specs.Whole.{IsLoadedAgain}
 use Rattle.pm_geom.specs.Things.{Orders}
+use Rattle.pm_machine.specs.Steps.{settled_object}
+use Rattle.pm_making.specs.Rows.{Makes, object_of, shape_file}
 use Rattle.pm_object.specs.Honest.{HonestAnswer, IsHonest, based, facts}
 use Rattle.pm_object.specs.State.{HeldValue, State, has_rounds, names_to_settle}
-use Rattle.pm_laws_lineage.specs.Provenances.{StandsFor}
+use Rattle.pm_laws_lineage.specs.Provenances.{StandsFor, is_savable}
 use Rattle.pm_laws_lineage.specs.Lineages.{Lineage}
 use Rattle.pm_props.specs.Properties.{has_program}
 use Rattle.pm_props.specs.Sets.{has}
@@ -47,7 +51,20 @@ abbrev pub LoadedAgainStands : Type 0
 LoadedAgainStands = (book : List Rule) (o : State) (f : SavedFile) (l : Lineage) → StandsFor l o → IsSaid o
     → IsLoadedAgain book o f → StandsFor l (loaded_object book f)
 
+-- Whatever a savable object, in which values stand where they may, stands for once what goes without saying of it is
+-- filled in: what is loaded of its file stands for it too.
+abbrev pub LoadedUnaskedStands : Type 0
+LoadedUnaskedStands = (book : List Rule) (o : State) (f : SavedFile) (l : Lineage) → StandsFor l (settled_object o)
+    → IsTrue (is_savable o)
+    → ((h : HeldValue) → Contains o.held h → has_program h.property ≡ false → h.place ≡ None)
+    → IsLoadedAgain book o f → StandsFor l (loaded_object book f)
+
 -- ---- when it is so
+-- what commands make is savable before anything is asked of it
+pub record MadeAreSavable : Type 0 where
+  pub shapes : (s : ShapeSeen) → IsTrue (is_savable (object_of (shape_file s)))
+  pub built : (b : Builder) (os : List State) (f : SavedFile) → Makes b os f → IsTrue (is_savable (object_of f))
+
 -- the kind finds p, or finds other things from it
 abbrev pub names : Kind → PropId → Bool
 names kind p = has kind.targets p || has kind.sources p

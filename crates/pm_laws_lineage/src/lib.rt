@@ -5,7 +5,7 @@
 ghost use Rattle.pm_laws_lineage.specs.Examples.{FilesAreRead, GivenValuesAreRead, ProvenancesAreRead, PolarOfCubeIsShown, PolarsOfCubesAreCrosses};
 ghost use Rattle.pm_laws_lineage.specs.Laws.{RunsKeepLineage, ShownIsRight, StepsInPartKeepLineage};
 ghost use Rattle.pm_laws_lineage.specs.Runs.{RunKeepsLineage};
-ghost use Rattle.pm_laws_lineage.specs.Saved.{EnsuredIsSaid, LoadedAgainIsRight, LoadedAgainStands, StandardKindsKeepHalves};
+ghost use Rattle.pm_laws_lineage.specs.Saved.{EnsuredIsSaid, LoadedAgainIsRight, LoadedAgainStands, LoadedUnaskedStands, MadeAreSavable, StandardKindsKeepHalves};
 
 /// Along every run that begins without objects, the values of each object are right, in some orders, for each thing
 /// that its lineage denotes: whatever the clients answer.
@@ -32,6 +32,17 @@ pub fn law_shown_is_right()
 /// Whatever an object stands for, what is loaded of its file stands for it too, where nothing went without saying.
 pub fn law_loaded_again_stands()
     ensures { LoadedAgainStands }
+{}
+
+/// So it does where something did, of a savable object: what is loaded stands for whatever the object stands for once
+/// that is filled in.
+pub fn law_loaded_unasked_stands()
+    ensures { LoadedUnaskedStands }
+{}
+
+/// What commands make is savable before anything is asked of it.
+pub fn law_made_are_savable()
+    ensures { MadeAreSavable }
 {}
 
 /// What is loaded of the file of an honest object holds right values, for every thing for which those that were given
