@@ -8,6 +8,7 @@ use Rattle.pm_command.specs.declared.building.Unary.{Unary}
 use Rattle.pm_command.specs.declared.building.Unary.TheVariants.{FaceFan, NormalFan, Polar, Pyramid}
 use Rattle.pm_files.specs.Files.{SavedFile}
 use Rattle.pm_laws_lineage.proofs.Builds.{BuildLaws, IsRightFor, one_operand, one_right, refined_right, shape_right, two_operands, two_right}
+use Rattle.pm_laws_lineage.proofs.Counts.{built_savable, shape_savable}
 use Rattle.pm_laws_lineage.proofs.Lines.{AllInLine, InLine, in_line_ensured, in_line_made, in_line_stands, line_at, new_line, one_line, same_line}
 use Rattle.pm_laws_lineage.proofs.Reading.{read_right, read_right_fan}
 use Rattle.pm_laws_lineage.proofs.Sound.{Sound}
@@ -105,7 +106,7 @@ module _ (laws : BuildLaws) (book : List Rule) (provenances : Provenances) where
   pub shape_line : (to : List ℕ) (s : ShapeSeen) (old new : Machine) → shape_condition s ≡ None → Gains to (object_of (shape_file s)) old new → AllInLine provenances old → AllInLine (put to (made (shape s)) provenances) new
   shape_line to s old new fits g all =
       new_line provenances to (made (shape s)) (object_of (shape_file s)) old new g.object g.others
-      (in_line_made book (made (shape s)) (shape_file s) (made_sound (shape s) (shape_file s) (λ u d. shape_right laws s u fits d.0 d.1))) all
+      (in_line_made book (made (shape s)) (shape_file s) (shape_savable s) (made_sound (shape s) (shape_file s) (λ u d. shape_right laws s u fits d.0 d.1))) all
 
   -- ---- one operand
   one_sound : (b : Unary) (a : State) (f : SavedFile) (provenance : Provenance) → Makes (One b) (a ∷ []) f → InLine provenance a → IsRead (row_of (One b)).reads a → a.of ≡ Polytope → Sound (made (one b (lineage_of provenance a))) (object_of f)
@@ -160,7 +161,7 @@ module _ (laws : BuildLaws) (book : List Rule) (provenances : Provenances) where
         let same : provenance_of (One b) (map (lineage_at provenances new) names) ≡ made (one b (lineage_of (provenances n) a)) = ap (λ z. provenance_of (One b) (map (lineage_at provenances new) z)) whole ∙ ap (λ z. provenance_of (One b) (z ∷ [])) (lineage_is n a at) in
         subst (λ z. AllInLine (put to z provenances) new) (sym same)
         (new_line provenances to (made (one b (lineage_of (provenances n) a))) (object_of f) mid new g.object g.others
-        (in_line_made book _ f (one_sound b a f (provenances n) (subst (λ z. Makes (One b) z f) e makes) (line_at provenances mid n a at all) r.0 (polytope_type a.of (subst (λ z. same_type z a.of ≡ true) (one_type b) r.1)))) all)
+        (in_line_made book _ f (built_savable (One b) (a ∷ []) f (subst (λ z. Makes (One b) z f) e makes)) (one_sound b a f (provenances n) (subst (λ z. Makes (One b) z f) e makes) (line_at provenances mid n a at all) r.0 (polytope_type a.of (subst (λ z. same_type z a.of ≡ true) (one_type b) r.1)))) all)
 
     two_built : (b : Binary) (os : List State) → Makes (Two b) os f → ObjectsAre mid names os → HaveRead (Two b) mid names → AllInLine (put to (provenance_of (Two b) (map (lineage_at provenances new) names)) provenances) new
     two_built b os makes are read =
@@ -176,7 +177,7 @@ module _ (laws : BuildLaws) (book : List Rule) (provenances : Provenances) where
         ap (λ z. provenance_of (Two b) (map (lineage_at provenances new) z)) whole ∙ ap (λ z. provenance_of (Two b) (z ∷ lineage_at provenances new k ∷ [])) (lineage_is n a at) ∙ ap (λ z. provenance_of (Two b) (Some (lineage_of (provenances n) a) ∷ z ∷ [])) (lineage_is k c at') in
         subst (λ z. AllInLine (put to z provenances) new) (sym same)
         (new_line provenances to (made (two b (lineage_of (provenances n) a) (lineage_of (provenances k) c))) (object_of f) mid new g.object g.others
-        (in_line_made book _ f
+        (in_line_made book _ f (built_savable (Two b) (a ∷ c ∷ []) f (subst (λ z. Makes (Two b) z f) e makes))
         (both_sound b a c f (provenances n) (provenances k) (subst (λ z. Makes (Two b) z f) e makes) (line_at provenances mid n a at all) (line_at provenances mid k c at' all) r.0 r'.0 r.1 r'.1)) all)
 
   pub built_line : (b : Builder) (old mid new : Machine) (names : List (List ℕ)) (to : List ℕ) (rounds : List RoundSeen) (os : List State) (f : SavedFile) → HasEnsured book b names to rounds os old mid → Makes b os f → Gains to (object_of f) mid new

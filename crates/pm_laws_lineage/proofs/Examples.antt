@@ -8,7 +8,7 @@ use Rattle.pm_laws_things.proofs.OrdersExist.{orders_exist}
 use Rattle.pm_laws_things.specs.BuildingExamples.{unit_segment}
 use Rattle.pm_laws_lineage.proofs.Cubes.{cube_is_bounded, polar_points}
 use Rattle.pm_laws_lineage.proofs.Reading.{shown_is_right}
-use Rattle.pm_laws_lineage.proofs.Savable.{savable_one}
+use Rattle.pm_laws_lineage.proofs.Counts.{savable_one}
 use Rattle.pm_props.specs.declared.property.PropId.TheVariants.{Bounded, Facets, LinealitySpace, Points, Vertices}
 use Rattle.std.proofs.lemmas.List.Elements.{All-nil}
 use Rattle.pm_laws_lineage.specs.Examples.{FilesAreRead, GivenValuesAreRead, ProvenancesAreRead, PolarOfCubeIsShown, PolarsOfCubesAreCrosses, polar_of_cube}
@@ -161,6 +161,8 @@ files_are_read = record {
   asked = λ of r. refl;
   not_asked = λ of. refl;
   two_counts = λ of. refl;
+  of_program = λ of. refl;
+  objective = λ of. refl;
   known_count = λ of. refl;
   both_halves = refl;
   one_half = refl;

@@ -7,6 +7,7 @@ pub mod Builds
 pub mod Objectives
 pub mod Given
 pub mod Placed
+pub mod Counts
 pub mod Lines
 pub mod Building
 pub mod Saved
@@ -18,3 +19,4 @@ pub mod Examples
 pub mod Saying
 pub mod Runs
 pub mod Savable
+pub mod Saving

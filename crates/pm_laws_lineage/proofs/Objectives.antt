@@ -67,7 +67,7 @@ still_held : (p : PropId) (s : ℕ) (v : PropertyValue) (held : List HeldValue) 
 still_held p s v held e =
     held_append p held (given_at (Some s) LinearObjective v ∷ []) ∙ ap (λ t. is_held p held || is_some (if t then Some v else None)) e ∙ or_false (is_held p held)
 
-same_names : (s : ℕ) (v : PropertyValue) (held : List HeldValue) → names_to_settle (held ++ given_at (Some s) LinearObjective v ∷ []) ≡ names_to_settle held
+pub same_names : (s : ℕ) (v : PropertyValue) (held : List HeldValue) → names_to_settle (held ++ given_at (Some s) LinearObjective v ∷ []) ≡ names_to_settle held
 same_names s v held =
     let c = still_held ConeAmbientDim s v held refl in
     let p = still_held Points s v held refl in

@@ -3,7 +3,7 @@
 use Rattle.pm_laws_lineage.proofs.Names.{AllFalse, none_of_five}
 use Rattle.pm_laws_lineage.proofs.Saved.{both, decide, held_of, is_not, not_both, of_held}
 use Rattle.pm_laws_lineage.proofs.Twice.{none, nothing_more}
-use Rattle.pm_laws_lineage.specs.Saved.{EnsuredIsSaid, IsSaid, IsSaidOnce, KeepsHalves, StandardKindsKeepHalves, keeps_halves, names}
+use Rattle.pm_laws_lineage.specs.Saved.{EnsuredIsSaid, IsSaid, IsSaidOnce, KeepsHalves, StandardBooksKeepHalves, StandardKindsKeepHalves, keeps_halves, names}
 use Rattle.pm_object.proofs.Formed.{held_stays}
 use Rattle.pm_object.specs.Honest.{facts}
 use Rattle.pm_object.specs.Laws.{computed}
@@ -20,21 +20,39 @@ use Rattle.pm_props.specs.declared.property.PropId.TheVariants.{AffineHull, Cone
 use Rattle.pm_props.specs.declared.set.PropSet.{PropSet}
 use Rattle.pm_rounds.specs.Events.{Configuration, Event, IsTrace, MayOccur, Phase, after_event, after_events, at_rest, begun, columns, committed, excluded, over, phase_after, phase_after_all, running, settled, started, turn, turns, unsettled, written}
 use Rattle.pm_rules.specs.declared.rule.Rule.{Rule}
-use Rattle.pm_standard.specs.Table.{standard_kinds_list}
+use Rattle.pm_standard.specs.Book.{standard_rule, standard_rules}
+use Rattle.pm_standard.specs.Table.{standard_clients, standard_kind, standard_kinds_list, wide_clients}
 use Rattle.pm_types.specs.Runs.{MayAnswer, MayRun, is_named, missing, shown, stands_at}
 use Rattle.pm_types.specs.Values.{Fact}
 use Rattle.pm_vector.proofs.Filters.{among_filter, among_map, any_to, filter_among, map_among}
-use Rattle.pm_vector.proofs.Lists.{Among, Contains_among, among_All, among_Contains, among_append, among_append_right}
+use Rattle.pm_vector.proofs.Lists.{Among, Contains_among, among_All, among_Contains, among_append, among_append_left, among_append_right, here, there}
 use Rattle.std.proofs.Common.{ap, append-nil, false, inl, inr, refl, subst, sym, true, true≢false, ◌∙◌}
 use Rattle.std.proofs.lemmas.Bool.{and_parts}
 use Rattle.std.proofs.lemmas.List.Sums.{AllPass-from_list_all}
 use Rattle.std.specs.List.{Contains}
-use Rattle.std.specs.Option.{unwrap_or}
-use Rattle.std.specs.Prelude.{Bool, List, None, Option, [], if◌then◌else◌, map, not, ℕ, ◌&&◌, ◌||◌, ◌++◌, ◌∷◌, ◌≡◌, ◌⊎◌}
+use Rattle.std.proofs.lemmas.Option.{same_Some}
+use Rattle.std.specs.Option.{is_some, unwrap_or}
+use Rattle.std.specs.Prelude.{Bool, List, None, Option, Some, [], if◌then◌else◌, map, not, slice_get, suc, zero, ℕ, ◌&&◌, ◌||◌, ◌++◌, ◌∷◌, ◌≡◌, ◌⊎◌}
 
 pub standard_kinds_keep_halves : StandardKindsKeepHalves
 unfolding has union only
 standard_kinds_keep_halves = AllPass-from_list_all keeps_halves standard_kinds_list refl
+
+got_among : {X : Type 0} (xs : List X) (i : ℕ) (x : X) → slice_get xs i ≡ Some x → Among x xs
+got_among [] i x h = absurd (true≢false (sym (ap is_some h)))
+got_among (y ∷ xs) zero x h = subst (λ z. Among z (y ∷ xs)) (same_Some _ _ h) here
+got_among (y ∷ xs) (suc i) x h = there (got_among xs i x h)
+
+kinds_keep : (book : List Rule) → ((rule : Rule) → Among rule book → Among rule.kind standard_kinds_list) → KeepsHalves book
+kinds_keep book kinds id rule is = among_All (λ kind. keeps_halves kind ≡ true) (kinds rule (got_among book id.0 rule is)) standard_kinds_keep_halves
+
+pub standard_books_keep_halves : StandardBooksKeepHalves
+standard_books_keep_halves = record {
+  of_kinds = λ book all. kinds_keep book (λ rule i. among_Contains _ (among_All (λ rule. Contains standard_kinds_list rule.kind) i all));
+  standard = kinds_keep standard_rules (λ rule i.
+      let (c, j, is) = map_among standard_rule standard_clients i in
+      subst (λ z. Among z standard_kinds_list) (sym (ap (λ (z : Rule). z.kind) is)) (among_append_left (map standard_kind wide_clients) (among_map standard_kind j)));
+}
 
 refute : (b : Bool) → (b ≡ true → ⊥) → b ≡ false
 refute true f = absurd (f refl)

@@ -127,8 +127,7 @@ ensured_in_part_keeps provenance book sub asked old new (phase, part) s knows =
     (held_in_phase provenance (phase_after_all unsettled part.events) (after_events sub part.events old).object (events_keep provenance book sub asked unsettled old part.events part.trace (s, knows)))
 
 pub ensured_keeps : (provenance : Provenance) (book : List Rule) (sub : Option ℕ) (asked : PropSet) (ending : Ending) (old new : Configuration) → Ensured book sub asked ending old new
-    → Sound provenance old.object → KnowsDimension old.object → Sound provenance new.object × KnowsDimension new.object
+    → Sound provenance old.object → KnowsDimension old.object → Sound provenance new.object × (is_held ConeAmbientDim new.object.held ≡ true)
 ensured_keeps provenance book sub asked ending old new e s knows =
-    let (a, b) = subst (λ (c : Configuration). InPhase provenance at_rest c.object) (sym e.reaches.becomes)
-    (subst (λ (q : Phase). InPhase provenance q (after_events sub e.reaches.events old).object) e.reaches.phase_is (events_keep provenance book sub asked unsettled old e.reaches.events e.reaches.trace (s, knows))) in
-    (a, λ h. b)
+    subst (λ (c : Configuration). InPhase provenance at_rest c.object) (sym e.reaches.becomes)
+    (subst (λ (q : Phase). InPhase provenance q (after_events sub e.reaches.events old).object) e.reaches.phase_is (events_keep provenance book sub asked unsettled old e.reaches.events e.reaches.trace (s, knows)))

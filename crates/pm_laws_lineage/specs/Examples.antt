@@ -15,7 +15,8 @@ use Rattle.pm_object.specs.State.{HeldValue, RoundSeen, State, empty_object, giv
 use Rattle.pm_object_type.specs.declared.object_type.ObjectType.{ObjectType}
 use Rattle.pm_object_type.specs.declared.object_type.ObjectType.TheVariants.{Polytope}
 use Rattle.pm_props.specs.Kinds.{finding}
-use Rattle.pm_props.specs.declared.property.PropId.TheVariants.{Bounded, ConeAmbientDim, Equations, Facets, Inequalities, InputLineality, LinealitySpace, NVertices, Points, Sites, Vertices}
+use Rattle.pm_props.specs.declared.property.PropId.{PropId}
+use Rattle.pm_props.specs.declared.property.PropId.TheVariants.{Bounded, ConeAmbientDim, Equations, Facets, Inequalities, InputLineality, LinealitySpace, LinearObjective, MaximalDual, NVertices, Points, Sites, Vertices}
 use Rattle.pm_script.specs.Replies.{Rounds, done, nothing, refused}
 use Rattle.pm_script.specs.declared.refusal.Refusal.TheVariants.{NoChain}
 use Rattle.pm_geom.specs.Things.{Orders}
@@ -119,6 +120,10 @@ half_of of = with_held (empty_of of) (given_at None Inequalities (matrix 3 []) �
 abbrev pub two_values : List HeldValue
 two_values = given_at None Points (matrix 3 []) ∷ given_at None Inequalities (matrix 4 []) ∷ []
 
+-- a matrix in 3 columns of a linear program
+abbrev pub at_program : PropId → List HeldValue
+at_program p = given_at (Some 0) p (matrix 3 []) ∷ []
+
 -- what is loaded, and which kinds leave nothing unsaid
 pub record FilesAreRead : Type 0 where
   -- of bytes that were saved, and of others
@@ -139,6 +144,9 @@ pub record FilesAreRead : Type 0 where
   -- values of two column counts leave the count open, but not where the dimension is held
   pub two_counts : (of : ObjectType) → is_savable (with_held (empty_object of) two_values) ≡ false
   pub known_count : (of : ObjectType) → is_savable (with_held (empty_of of) two_values) ≡ true
+  -- nor is a count known that only a value of a linear program states, which goes into no file; an objective does
+  pub of_program : (of : ObjectType) → is_savable (with_held (empty_object of) (at_program MaximalDual)) ≡ false
+  pub objective : (of : ObjectType) → is_savable (with_held (empty_object of) (at_program LinearObjective)) ≡ true
   -- a client that finds INEQUALITIES without EQUATIONS leaves that there are none to be filled in
   pub both_halves : keeps_halves (finding (codes "x") (Inequalities ∷ Equations ∷ []) (Points ∷ InputLineality ∷ []))
       ≡ true

@@ -1,17 +1,19 @@
 -- An object that is saved and loaded again.
-use Rattle.std.specs.Prelude.{ℕ, ◌≡◌, ◌&&◌, ◌||◌, Bool, IsTrue, false, true, not, List, [], None, Option, Some}
+use Rattle.std.specs.Prelude.{ℕ, ◌≡◌, ◌&&◌, ◌||◌, Bool, IsTrue, false, true, ◌⊎◌, not, List, [], None, Option, Some}
 use Rattle.std.specs.List.{All, Contains}
-use Rattle.pm_command.specs.Commands.{ShapeSeen}
+use Rattle.pm_command.specs.Commands.{ShapeSeen, Spoken}
 use Rattle.pm_command.specs.declared.building.Builder.{Builder}
 use Rattle.pm_files.specs.Files.{SavedFile}
 use Rattle.pm_filing.specs.Filing.{loaded_object}
 use Rattle.pm_filing.specs.Whole.{IsLoadedAgain}
 use Rattle.pm_geom.specs.Things.{Orders}
+use Rattle.pm_machine.specs.Machines.{Machine}
 use Rattle.pm_machine.specs.Steps.{settled_object}
 use Rattle.pm_making.specs.Rows.{Makes, object_of, shape_file}
 use Rattle.pm_object.specs.Honest.{HonestAnswer, IsHonest, based, facts}
 use Rattle.pm_object.specs.State.{HeldValue, State, has_rounds, names_to_settle}
-use Rattle.pm_laws_lineage.specs.Provenances.{StandsFor, is_savable}
+use Rattle.pm_laws_lineage.specs.Laws.{Leads, new_records}
+use Rattle.pm_laws_lineage.specs.Provenances.{Provenances, Records, StandsFor, is_savable}
 use Rattle.pm_laws_lineage.specs.Lineages.{Lineage}
 use Rattle.pm_props.specs.Properties.{has_program}
 use Rattle.pm_props.specs.Sets.{has}
@@ -23,8 +25,10 @@ use Rattle.pm_props.specs.declared.property.PropId.TheVariants.{AffineHull, Equa
 use Rattle.pm_props.specs.declared.set.PropSet.{PropSet}
 use Rattle.pm_rounds.specs.Events.{Configuration, Ensured}
 use Rattle.pm_rounds.specs.declared.round.Ending.{Ending}
+use Rattle.pm_standard.specs.Book.{standard_rules}
 use Rattle.pm_standard.specs.Table.{standard_kinds_list}
 use Rattle.pm_rules.specs.declared.rule.Rule.{Rule}
+use Rattle.pm_script.specs.Replies.{ReplySeen}
 use Rattle.pm_types.specs.Right.{RightAll}
 use Rattle.pm_types.specs.Things.{Thing}
 
@@ -86,9 +90,23 @@ KeepsHalves book = (id : RuleId) (rule : Rule) → rule_at book id ≡ Some rule
 abbrev pub StandardKindsKeepHalves : Type 0
 StandardKindsKeepHalves = All (λ kind. IsTrue (keeps_halves kind)) standard_kinds_list
 
+-- so is each book of rules of such kinds, and the standard book
+pub record StandardBooksKeepHalves : Type 0 where
+  pub of_kinds : (book : List Rule) → All (λ rule. Contains standard_kinds_list rule.kind) book → KeepsHalves book
+  pub standard : KeepsHalves standard_rules
+
 -- By such a book an object that is ensured something is one of which nothing goes without saying; in it values stand
 -- where they may stand.
 abbrev pub EnsuredIsSaid : Type 0
 EnsuredIsSaid = (book : List Rule) → KeepsHalves book → (sub : Option ℕ) (asked : PropSet) (ending : Ending)
     (old new : Configuration) → Ensured book sub asked ending old new → IsSaidOnce old.object
     → IsSaid new.object × IsSaidOnce new.object
+
+-- Along every run that begins without objects each object is savable for which no round was started; and by such a book
+-- each one is.
+abbrev pub ObjectsAreSavable : Type 0
+ObjectsAreSavable = (book : List Rule) (start end : Machine) (provenances : Provenances) (later : Records)
+    (run : List (Spoken × ReplySeen)) → ((q : List ℕ) → start.object q ≡ None)
+    → Leads book start (new_records provenances) run end later
+    → (q : List ℕ) (o : State) → end.object q ≡ Some o → (has_rounds o ≡ false) ⊎ KeepsHalves book
+    → IsTrue (is_savable o)

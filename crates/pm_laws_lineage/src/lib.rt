@@ -5,7 +5,7 @@
 ghost use Rattle.pm_laws_lineage.specs.Examples.{FilesAreRead, GivenValuesAreRead, ProvenancesAreRead, PolarOfCubeIsShown, PolarsOfCubesAreCrosses};
 ghost use Rattle.pm_laws_lineage.specs.Laws.{RunsKeepLineage, ShownIsRight, StepsInPartKeepLineage};
 ghost use Rattle.pm_laws_lineage.specs.Runs.{RunKeepsLineage};
-ghost use Rattle.pm_laws_lineage.specs.Saved.{EnsuredIsSaid, LoadedAgainIsRight, LoadedAgainStands, LoadedUnaskedStands, MadeAreSavable, StandardKindsKeepHalves};
+ghost use Rattle.pm_laws_lineage.specs.Saved.{EnsuredIsSaid, LoadedAgainIsRight, LoadedAgainStands, LoadedUnaskedStands, MadeAreSavable, ObjectsAreSavable, StandardBooksKeepHalves, StandardKindsKeepHalves};
 
 /// Along every run that begins without objects, the values of each object are right, in some orders, for each thing
 /// that its lineage denotes: whatever the clients answer.
@@ -45,6 +45,12 @@ pub fn law_made_are_savable()
     ensures { MadeAreSavable }
 {}
 
+/// Along every run that begins without objects each object is savable for which no round was started; and by rules that
+/// keep halves together each one is.
+pub fn law_objects_are_savable()
+    ensures { ObjectsAreSavable }
+{}
+
 /// What is loaded of the file of an honest object holds right values, for every thing for which those that were given
 /// or stored are right.
 pub fn law_loaded_again_is_right()
@@ -59,6 +65,11 @@ pub fn law_ensured_is_said()
 /// The kinds of all standard and wide clients keep halves together.
 pub fn law_standard_kinds_keep_halves()
     ensures { StandardKindsKeepHalves }
+{}
+
+/// So do all books of rules of such kinds, and the standard book.
+pub fn law_standard_books_keep_halves()
+    ensures { StandardBooksKeepHalves }
 {}
 
 /// The polars of the cube are the cross-polytopes.
