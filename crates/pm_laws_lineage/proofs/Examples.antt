@@ -156,6 +156,7 @@ files_are_read = record {
   latest = λ l k. refl;
   said = λ s. refl;
   unsaid = λ s. refl;
+  filled_in = λ book of. refl;
   unasked = λ o. savable_one Points (cols_at o) (rows_at Facets o) refl;
   empty = λ of r. refl;
   asked = λ of r. refl;

@@ -5,8 +5,8 @@ use Rattle.pm_command.specs.Commands.{RefSeen, build_object, copy_object, cross_
 use Rattle.pm_command.specs.declared.building.Builder.TheVariants.{One}
 use Rattle.pm_command.specs.declared.building.Unary.TheVariants.{Polar}
 use Rattle.pm_laws_things.specs.BuildingExamples.{unit_segment}
-use Rattle.pm_laws_lineage.specs.Provenances.{Provenances, StandsFor, is_savable, keeps_lineage, provenance_loaded, provenances_after, lineage_of, made, of_its_values, saved_if}
-use Rattle.pm_laws_lineage.specs.Lineages.{Denotes, Lineage, one, shape, with_objectives, with_value}
+use Rattle.pm_laws_lineage.specs.Provenances.{Provenances, StandsFor, is_savable, keeps_lineage, provenance_loaded, provenances_after, lineage_of, made, of_its_values, saved_if, saving}
+use Rattle.pm_laws_lineage.specs.Lineages.{Denotes, Lineage, given, one, shape, with_objectives, with_value}
 use Rattle.pm_laws_lineage.specs.Saved.{keeps_halves}
 use Rattle.pm_limits.specs.Limits.{most_dimensions}
 use Rattle.pm_machine.specs.Machines.{Machine}
@@ -17,6 +17,7 @@ use Rattle.pm_object_type.specs.declared.object_type.ObjectType.TheVariants.{Pol
 use Rattle.pm_props.specs.Kinds.{finding}
 use Rattle.pm_props.specs.declared.property.PropId.{PropId}
 use Rattle.pm_props.specs.declared.property.PropId.TheVariants.{Bounded, ConeAmbientDim, Equations, Facets, Inequalities, InputLineality, LinealitySpace, LinearObjective, MaximalDual, NVertices, Points, Sites, Vertices}
+use Rattle.pm_rules.specs.declared.rule.Rule.{Rule}
 use Rattle.pm_script.specs.Replies.{Rounds, done, nothing, refused}
 use Rattle.pm_script.specs.declared.refusal.Refusal.TheVariants.{NoChain}
 use Rattle.pm_geom.specs.Things.{Orders}
@@ -135,6 +136,10 @@ pub record FilesAreRead : Type 0 where
   -- the lineage is not kept where the object is not savable
   pub said : (s : List ℕ × Lineage) → saved_if true s [] ≡ s ∷ []
   pub unsaid : (s : List ℕ × Lineage) → saved_if false s [] ≡ []
+  -- what is kept of an object of given POINTS tells what goes without saying of it too
+  pub filled_in : (book : List Rule) (of : ObjectType) → (saving book of_its_values (with_held (empty_object of)
+      (given_at None Points (matrix 3 []) ∷ []))).1
+      ≡ given of (given_at None Points (matrix 3 []) ∷ settled 3 ConeAmbientDim ∷ settled 3 InputLineality ∷ [])
   -- a polar of which nothing was asked is savable, and so is an object of which nothing goes without saying
   pub unasked : (o : State) → is_savable (object_of (polar_of o)) ≡ true
   pub empty : (of : ObjectType) (r : RoundSeen) → is_savable (with_round (empty_of of) r) ≡ true
