@@ -48,7 +48,7 @@ module _ (book : List Rule) (provenances : Provenances) where
   parts_stand (w ∷ ws) old new (inr (inl one)) all = part_stands None (only_property w.property) old new w.name one.object one.now one.named one.ensured one.becomes all
   parts_stand (w ∷ ws) old new (inr (inr (m, rounds, one, others))) all = parts_stand ws m new others (one_keeps build_laws book provenances w ending.Found rounds old m one all)
 
-  step_in_part_stands : (old new : Machine) (command : Spoken) → StepInPart book old command new → AllInLine provenances old → AllStandFor provenances new
+  pub step_in_part_stands : (old new : Machine) (command : Spoken) → StepInPart book old command new → AllInLine provenances old → AllStandFor provenances new
   step_in_part_stands old new (give_value ref text) (inl s) all = stays_stand old new s.objects all
   step_in_part_stands old new (give_value ref text) (inr g) all = part_stands g.found.sub (only_property g.property) old new ref.name g.found.object g.now (named_object old ref g.found g.named) g.ensured g.becomes all
   step_in_part_stands old new (ensure_values ref words) (inl s) all = stays_stand old new s.objects all

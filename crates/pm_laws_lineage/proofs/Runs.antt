@@ -2,6 +2,7 @@
 use Rattle.pm_command.specs.Commands.{Spoken, blank}
 use Rattle.pm_command.specs.Lines.{Line}
 use Rattle.pm_laws_lineage.proofs.Laws.{build_laws}
+use Rattle.pm_laws_lineage.proofs.Parts.{step_in_part_stands}
 use Rattle.pm_laws_lineage.proofs.Lines.{AllInLine, all_stand}
 use Rattle.pm_laws_lineage.proofs.Steps.{AllSaved, none_in_line, read_bytes, step_line, step_saved}
 use Rattle.pm_laws_lineage.specs.Provenances.{Records}
@@ -41,7 +42,7 @@ line_to book records old new why None (Some reply) (reply_is, is) k = record { b
 line_to book records old new why None None h k = absurd h
 
 along : (book : List Rule) (old new : Machine) (lines : List Line) (replies : List (Option ReplySeen)) (records : Records) → Known book records old → Run book old lines replies new → RunInLine book old records lines replies new
-along book old new [] [] records k run = run
+along book old new [] [] records k run = (run, λ command part h. step_in_part_stands book records.provenances old part command h k.line)
 along book old new (line ∷ lines) (reply ∷ replies) records k run =
     let after = line_to book records old run.0 (refusal_of line) (command_at line) reply run.1 k in
     (run.0, after.bytes, run.1, after.read, all_stand _ run.0 after.known.line, along book run.0 new lines replies (records_to book after.bytes (command_at line) reply run.0 records) after.known run.5)

@@ -5,6 +5,7 @@ use Rattle.pm_command.specs.Lines.{Line}
 use Rattle.pm_laws_lineage.specs.Provenances.{AllStandFor, Records, Provenances, records_after}
 use Rattle.pm_laws_lineage.specs.Laws.{HasRead, new_records}
 use Rattle.pm_machine.specs.Machines.{Machine}
+use Rattle.pm_machine.specs.Parts.{StepInPart}
 use Rattle.pm_rules.specs.declared.rule.Rule.{Rule}
 use Rattle.pm_script.specs.Replies.{ReplySeen}
 use Rattle.pm_machine.specs.Run.{Answers, Run, command_at}
@@ -20,10 +21,16 @@ abbrev pub HasReadTo : List Rule → Machine → Option Spoken → Option ReplyS
 HasReadTo book old (Some command) (Some reply) new bytes = HasRead book old command reply new bytes
 HasReadTo book old command reply new bytes = Unit {0}
 
+-- where memory runs out in the command that comes next, whatever part of it happened, each object stands for what it
+-- stood for
+abbrev pub NextStands : List Rule → Machine → Records → Type 0
+NextStands book old records = (command : Spoken) (new : Machine) → StepInPart book old command new
+    → AllStandFor records.provenances new
+
 -- it answers so to the lines, one after another, and after each of them the values of each object are right, in some
--- orders, for each thing that its lineage denotes
+-- orders, for each thing that its lineage denotes; and so they are after a part of the next command
 abbrev pub RunInLine : List Rule → Machine → Records → List Line → List (Option ReplySeen) → Machine → Type 0
-RunInLine book old records [] [] new = new ≡ old
+RunInLine book old records [] [] new = (new ≡ old) × NextStands book old records
 RunInLine book old records (line ∷ lines) (reply ∷ replies) new = (mid : Machine) × (bytes : List ℕ)
     × Answers book old line reply mid × HasReadTo book old (command_at line) reply mid bytes
     × AllStandFor (records_to book bytes (command_at line) reply mid records).provenances mid

@@ -14,7 +14,8 @@ pub fn law_runs_keep_lineage()
 {}
 
 /// So along each run of a script: after each line the values of each object are right, in some orders, for each thing
-/// that its lineage denotes, for the polars of what c stood for where it was made by `polar c d`.
+/// that its lineage denotes, for the polars of what c stood for where it was made by `polar c d`; and so they are where
+/// memory runs out in the next command.
 pub fn law_run_keeps_lineage()
     ensures { RunKeepsLineage }
 {}
