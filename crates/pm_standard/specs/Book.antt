@@ -1,7 +1,7 @@
--- The standard book: a rule for each standard client.
-use Rattle.std.specs.Prelude.{List, map}
+-- The standard book: a rule for each standard client. And the wide one.
+use Rattle.std.specs.Prelude.{List, map, ◌++◌}
 use Rattle.pm_rules.specs.declared.rule.Rule.{Rule}
-use Rattle.pm_standard.specs.Table.{standard_clients, standard_row}
+use Rattle.pm_standard.specs.Table.{standard_clients, standard_row, wide_clients}
 use Rattle.pm_standard.specs.declared.standard.StandardClient.{StandardClient}
 use Rattle.pm_standard.specs.declared.standard.StandardRule.{StandardRule}
 
@@ -21,3 +21,7 @@ standard_rule c = rule_of (standard_row c)
 -- the rules of the standard book
 abbrev pub standard_rules : List Rule
 standard_rules = map standard_rule standard_clients
+
+-- the rules of the wide book, as the file wide.rules has them: the standard ones, and behind them the wide ones
+abbrev pub wide_rules : List Rule
+wide_rules = standard_rules ++ map standard_rule wide_clients
