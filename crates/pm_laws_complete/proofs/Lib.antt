@@ -6,3 +6,4 @@ pub mod Coming
 pub mod Free
 pub mod Told
 pub mod SparedLaws
+pub mod LongerBooks

@@ -5,3 +5,4 @@ pub mod Comes
 pub mod Spared
 pub mod Told
 pub mod SparedExamples
+pub mod LongerBooks

@@ -1,11 +1,12 @@
-//! What the standard book finds: of a polytope or cone that holds one of the four descriptions, each property of its
-//! type; and what a command finds by any book: all that is asked, where a chain leads to it and no client fails. It
-//! has no code. It knows nothing of how an answer is found.
+//! What the standard book finds, and each book that begins with it: of a polytope or cone that holds one of the four
+//! descriptions, each property of its type; and what a command finds by any book: all that is asked, where a chain
+//! leads to it and no client fails. It has no code. It knows nothing of how an answer is found.
 #![tactic(auto)]
 
 ghost use Rattle.pm_laws_complete.specs.Comes.{GiveComes, StandardChainLeadsNow, ValueComes};
 ghost use Rattle.pm_laws_complete.specs.Completeness.{StandardBookIsComplete};
 ghost use Rattle.pm_laws_complete.specs.Examples.{DescriptionsAreRead, ObjectsAreRead};
+ghost use Rattle.pm_laws_complete.specs.LongerBooks.{ChainsStay, LongerBooksAreComplete, LongerBooksLeadNow, WideBookIsComplete, WideChainLeadsNow};
 ghost use Rattle.pm_laws_complete.specs.Objects.{SomeChainLeads};
 ghost use Rattle.pm_laws_complete.specs.Spared.{KeptRulesStayFree, SparedGiveComes, SparedIsFound};
 ghost use Rattle.pm_laws_complete.specs.SparedExamples.{SparedIsRead};
@@ -67,4 +68,30 @@ pub fn law_spared_give_comes()
 /// Which events spare rules.
 pub fn example_spared()
     ensures { SparedIsRead }
+{}
+
+/// What a chain of a book leads to, it leads to by each book that begins with it, where none of its rules is barred.
+pub fn law_chains_stay()
+    ensures { ChainsStay }
+{}
+
+/// Each book that begins with the standard rules has a chain from each of the four descriptions to each property.
+pub fn law_longer_books_are_complete()
+    ensures { LongerBooksAreComplete }
+{}
+
+/// So has the wide book, by which a data file is asked.
+pub fn law_wide_book_is_complete()
+    ensures { WideBookIsComplete }
+{}
+
+/// By each such book a chain leads to a property now, where the object holds one description alone and no standard rule
+/// is barred for it.
+pub fn law_longer_books_lead_now()
+    ensures { LongerBooksLeadNow }
+{}
+
+/// So one does by the wide book.
+pub fn law_wide_chain_leads_now()
+    ensures { WideChainLeadsNow }
 {}
