@@ -33,7 +33,7 @@ client_stays k kind clients = by (place_in kind 0 clients)
     by (Some place) = ap is_some (place_started k 0 place clients)
 
 -- ---- a rule that needs nothing is never wrong
-none_of : {X : Type 0} (test : X → Bool) (xs : List X) → ((x : X) → test x ≡ false) → list_any test xs ≡ false
+pub none_of : {X : Type 0} (test : X → Bool) (xs : List X) → ((x : X) → test x ≡ false) → list_any test xs ≡ false
 none_of test [] f = refl
 none_of test (x ∷ xs) f = ap (λ b. b || list_any test xs) (f x) ∙ none_of test xs f
 
@@ -56,7 +56,7 @@ parts_false false false true d h = absurd (true≢false h)
 parts_false false false false true h = (refl, refl, refl)
 parts_false false false false false h = absurd (true≢false h)
 
-false_parts : (a b c d : Bool) → a ≡ false → b ≡ false → c ≡ false → d ≡ true → (a || b || c || not d) ≡ false
+pub false_parts : (a b c d : Bool) → a ≡ false → b ≡ false → c ≡ false → d ≡ true → (a || b || c || not d) ≡ false
 false_parts a b c d e f g h = rw (e, f, g, h) refl
 
 to_parts : (sub : Option ℕ) (id : RuleId) (rule : Rule) (c : Configuration) → is_barred_on c.clients c.object sub id rule ≡ false → Parts sub id rule c

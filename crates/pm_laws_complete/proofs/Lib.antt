@@ -7,3 +7,7 @@ pub mod Free
 pub mod Told
 pub mod SparedLaws
 pub mod LongerBooks
+pub mod Settled
+pub mod Untouched
+pub mod Exclusions
+pub mod Given

@@ -6,3 +6,4 @@ pub mod Spared
 pub mod Told
 pub mod SparedExamples
 pub mod LongerBooks
+pub mod Given

@@ -6,6 +6,7 @@
 ghost use Rattle.pm_laws_complete.specs.Comes.{GiveComes, StandardChainLeadsNow, ValueComes};
 ghost use Rattle.pm_laws_complete.specs.Completeness.{StandardBookIsComplete};
 ghost use Rattle.pm_laws_complete.specs.Examples.{DescriptionsAreRead, ObjectsAreRead};
+ghost use Rattle.pm_laws_complete.specs.Given.{FormedAreOwn, GivenLeadsNow, RefusedExcludesMore, SettledHoldsAlone, UntouchedBarsNothing};
 ghost use Rattle.pm_laws_complete.specs.LongerBooks.{ChainsStay, LongerBooksAreComplete, LongerBooksLeadNow, WideBookIsComplete, WideChainLeadsNow};
 ghost use Rattle.pm_laws_complete.specs.Objects.{SomeChainLeads};
 ghost use Rattle.pm_laws_complete.specs.Spared.{KeptRulesStayFree, SparedGiveComes, SparedIsFound};
@@ -94,4 +95,32 @@ pub fn law_longer_books_lead_now()
 /// So one does by the wide book.
 pub fn law_wide_chain_leads_now()
     ensures { WideChainLeadsNow }
+{}
+
+/// The values of every object stand so: those that are not of linear programs in the object itself.
+pub fn law_formed_are_own()
+    ensures { FormedAreOwn }
+{}
+
+/// An object that is given by one description or the first half of one holds the description alone once it is settled,
+/// if no round was started for it.
+pub fn law_settled_holds_alone()
+    ensures { SettledHoldsAlone }
+{}
+
+/// No standard rule is barred for an object for which no rule was excluded and no label disabled, where its clients are
+/// there and no precondition is false.
+pub fn law_untouched_bars_nothing()
+    ensures { UntouchedBarsNothing }
+{}
+
+/// From an object that is given so, as it is settled, a chain of each such book leads to each property.
+pub fn law_given_leads_now()
+    ensures { GivenLeadsNow }
+{}
+
+/// So where `give` is refused for want of a chain to a property of such an object, it has excluded a rule, and one of
+/// its rounds tells which.
+pub fn law_refused_excludes_more()
+    ensures { RefusedExcludesMore }
 {}
