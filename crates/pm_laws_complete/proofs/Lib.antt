@@ -11,3 +11,4 @@ pub mod Settled
 pub mod Untouched
 pub mod Exclusions
 pub mod Given
+pub mod GivenExamples

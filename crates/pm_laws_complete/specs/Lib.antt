@@ -7,3 +7,4 @@ pub mod Told
 pub mod SparedExamples
 pub mod LongerBooks
 pub mod Given
+pub mod GivenExamples

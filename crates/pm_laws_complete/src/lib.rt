@@ -7,6 +7,7 @@ ghost use Rattle.pm_laws_complete.specs.Comes.{GiveComes, StandardChainLeadsNow,
 ghost use Rattle.pm_laws_complete.specs.Completeness.{StandardBookIsComplete};
 ghost use Rattle.pm_laws_complete.specs.Examples.{DescriptionsAreRead, ObjectsAreRead};
 ghost use Rattle.pm_laws_complete.specs.Given.{FormedAreOwn, GivenLeadsNow, RefusedExcludesMore, SettledHoldsAlone, UntouchedBarsNothing};
+ghost use Rattle.pm_laws_complete.specs.GivenExamples.{GivenIsRead, LongerBooksAreRead};
 ghost use Rattle.pm_laws_complete.specs.LongerBooks.{ChainsStay, LongerBooksAreComplete, LongerBooksLeadNow, WideBookIsComplete, WideChainLeadsNow};
 ghost use Rattle.pm_laws_complete.specs.Objects.{SomeChainLeads};
 ghost use Rattle.pm_laws_complete.specs.Spared.{KeptRulesStayFree, SparedGiveComes, SparedIsFound};
@@ -123,4 +124,14 @@ pub fn law_given_leads_now()
 /// its rounds tells which.
 pub fn law_refused_excludes_more()
     ensures { RefusedExcludesMore }
+{}
+
+/// Which rules the wide book has, and what is not found by a book without rules.
+pub fn example_longer_books()
+    ensures { LongerBooksAreRead }
+{}
+
+/// What it is to be given by one description, and what tells that a rule was excluded.
+pub fn example_given()
+    ensures { GivenIsRead }
 {}
