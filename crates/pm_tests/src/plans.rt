@@ -1,20 +1,28 @@
 // Which tables prove what is claimed of chains.
 
+use pm_books::read_book;
 use pm_cert::verify;
 use pm_plan::plan;
 use pm_props::{ObjectType, PropId, PropSet};
 use pm_rules::{Book, Claim, Cost, RuleId, Table, TableRow};
-use pm_standard::standard_book;
+use pm_standard::{standard_book, standard_kinds};
+use std::alloc::Global;
+use std::process::Abort;
 
-// Every name that a polytope may have.
-fn names() -> PropSet {
+// Every name that an object of a type may have.
+fn names_of(of: ObjectType) -> PropSet {
     let mut names = PropSet::empty();
     for p in PropId::every() {
-        if p.is_in(ObjectType::Polytope) {
+        if p.is_in(of) {
             names = names.with(p);
         }
     }
     names
+}
+
+// Every name that a polytope may have.
+fn names() -> PropSet {
+    names_of(ObjectType::Polytope)
 }
 
 // Whether a table proves a claim of the chains from vertices and facets to incidences, for which there is a rule of
@@ -69,4 +77,46 @@ fn a_table_proves_its_plan_in_any_order(rt: HostRuntime) {
     assert!(rt; verify(&book, names(), held, &[], asked, &plan.table, least(6)));
     plan.table.rows.pop();
     assert!(rt; !verify(&book, names(), held, &[], asked, &plan.table, least(6)));
+}
+
+// A book of one rule, of weight 40.
+fn book_of_one_rule(rt: &impl Abort, alloc: Global) -> Book {
+    let kinds = standard_kinds(alloc).expect(rt, "room for kinds");
+    let text =
+        "d : rule VERTICES, LINEALITY_SPACE : INEQUALITIES, EQUATIONS { dd_vertices } weight 40;";
+    read_book(alloc, text, &kinds).expect(rt, "a book")
+}
+
+// Whether a table of the held names of a cone, or of no row, proves a claim of the chains to the vertices.
+fn is_shown(rt: &impl Abort, alloc: Global, barred: &[RuleId], has_row: bool, c: Claim) -> bool {
+    let book = book_of_one_rule(rt, alloc);
+    let set = PropSet::of_list(&[
+        PropId::ConeAmbientDim,
+        PropId::Inequalities,
+        PropId::Equations,
+    ]);
+    let mut rows = Vec::new(alloc);
+    if has_row {
+        let cost = Cost::none();
+        rows.push(TableRow { set, cost })
+            .expect(rt, "room for a row");
+    }
+    let (names, asked) = (names_of(ObjectType::Cone), PropSet::of(PropId::Vertices));
+    verify(&book, names, set, barred, asked, &Table { rows }, c)
+}
+
+// The one chain has the weight 40; where its rule is barred there is none.
+#[test]
+fn tables_of_one_rule_prove_its_weight(rt: HostRuntime) {
+    let alloc = rt.alloc();
+    for (has_row, claim, wanted) in [
+        (true, least(40), true),
+        (true, least(41), false),
+        (false, least(40), false),
+        (false, least(0), true),
+        (true, Claim::NoChain, false),
+    ] {
+        assert!(rt; is_shown(&rt, alloc, &[], has_row, claim) == wanted);
+    }
+    assert!(rt; is_shown(&rt, alloc, &[RuleId(0)], true, Claim::NoChain));
 }
