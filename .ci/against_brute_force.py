@@ -1,7 +1,8 @@
 #!/usr/bin/env python3
 """Tries the built program on random input beside brute force: against_brute_force.py PROGRAM.. tells what is wrong and nothing else.
 
-The seeds are fixed. A program whose name has `maximise` is asked for linear programs alone. PARTS=a,b runs these parts, and TIMES=1 tells how long each took.
+A program whose name has `maximise` is asked for linear programs alone. PARTS=a,b runs these parts, and TIMES=1 tells how long each took.
+The seeds are fixed; SEED=n takes others, and TIMES_MORE=k so many times as many scripts.
 """
 import os
 import random
@@ -12,6 +13,7 @@ sys.dont_write_bytecode = True
 
 import check_geometry
 import check_limits
+import check_made
 import check_plans
 import check_programs
 import check_sets
@@ -20,12 +22,14 @@ from running import Runs
 
 TOP = os.path.dirname(os.path.dirname(os.path.abspath(__file__)))
 MADE = {}
+SEED = os.environ.get('SEED', '')
+TIMES_MORE = int(os.environ.get('TIMES_MORE', '1'))
 
 
 def made(make, seed, words):
     """Cases that are the same for each program, and are made once."""
     if (make, seed) not in MADE:
-        MADE[make, seed] = make(random.Random(seed), words)
+        MADE[make, seed] = make(random.Random(f'{seed} of {SEED}' if SEED else seed), words)
     return MADE[make, seed]
 
 
@@ -37,11 +41,11 @@ def standard_rules():
 
 def few(runs, count):
     """So many for the program as LLVM builds it, and a quarter of them for the one by Rattle's own compiler, which is slower."""
-    return count // 4 if runs.program.endswith('.by-rattle') else count
+    return TIMES_MORE * (count // 4 if runs.program.endswith('.by-rattle') else count)
 
 
 def few_made(runs, make, seed, count):
-    return made(make, seed, count)[:few(runs, count)]
+    return made(make, seed, TIMES_MORE * count)[:few(runs, count)]
 
 
 def generated(runs, own):
@@ -91,6 +95,23 @@ def lines(runs, own):
     check_texts.check_lines(own, runs, few(runs, 60))
 
 
+def sums(runs, own):
+    check_made.check_sums(own, runs, few(runs, 40))
+
+
+def cells(runs, own):
+    check_made.check_cells(own, runs, few(runs, 80))
+
+
+def kept(runs, own):
+    check_made.check_kept(own, runs, few(runs, 60))
+
+
+def wide(runs, own):
+    with open(f'{TOP}/wide.rules') as file:
+        check_made.check_wide(own, runs, few(runs, 60), file.read())
+
+
 def limits(runs, own):
     check_limits.check_facets(runs)
     check_limits.check_cells(runs)
@@ -106,7 +127,7 @@ def table(runs, own):
     check_limits.check_table(runs, made(check_limits.table_cases, 2, standard_rules()))
 
 
-PARTS = [generated, cut_out, spaces, programs, sets, books, texts, files, lines, limits, table]
+PARTS = [generated, cut_out, spaces, programs, sets, books, texts, files, lines, sums, cells, kept, wide, limits, table]
 
 
 def main(tried):
@@ -120,7 +141,7 @@ def main(tried):
             for part in PARTS:
                 if part.__name__ in chosen:
                     begun = time.time()
-                    part(runs, random.Random(part.__name__))
+                    part(runs, random.Random(part.__name__ + SEED))
                     if 'TIMES' in os.environ:
                         print(f'{part.__name__}: {time.time() - begun:.1f} s, {runs.count} replies so far', file=sys.stderr)
         runs.end()
