@@ -156,6 +156,8 @@ def bad_cdd():
     yield bad(cdd("1 0 1", size="2 3 rational"), 5, "1 rows, where 2 are announced")
     yield bad("H-representation\nbegin\n1 3 rational\n1 0 1\n", 5, "'end' is missing")
     yield bad(cdd("1 0 1\nbegin"), 5, "a second 'begin'")
+    yield bad("H-representation\nbegin\n***** 2 rational\n1 1\nbegin\n***** 3 rational\n1 1 1\nend\n", 5, "a second 'begin'")
+    yield bad("H-representation\nbegin\n***** 1 rational\n1\nV-representation\nbegin\n***** 1 rational\n1\nend\n", 5, "a second representation")
     yield bad(cdd("1 0 1", tail="begin\n"), 6, "'begin' behind 'end'")
     yield bad(cdd("1 0 1", tail="linearity 1 1\n"), 6, "'linearity' behind 'end'")
     linear = "H-representation\nlinearity {}\n"

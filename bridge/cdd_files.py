@@ -1,5 +1,6 @@
 """Files of cddlib and lrslib (.ine, .ext): read into a script, and written from replies."""
 
+import re
 from dataclasses import dataclass, field
 
 import command
@@ -31,8 +32,10 @@ CHANGING = set(
 # What a program is called here, which has no name in these files.
 PROGRAM = "lp"
 
-# What lrslib writes for a number of rows that it does not know yet.
+# What lrslib writes for a number of rows that it does not know yet, and how its lines of a dictionary begin.
 UNTOLD = "*****"
+DICTIONARY = re.compile(r"[VRF]#[0-9]+")
+ENTRY = re.compile(r"-?[0-9]+(?:/[0-9]+)?", re.ASCII)
 
 
 @dataclass
@@ -57,6 +60,8 @@ def words_of_lines(text):
     is_size = False
     for number, line in enumerate(command.lines_of(text), 1):
         words = line.split()
+        if words and DICTIONARY.fullmatch(words[0]):
+            continue
         if words and (not words[0].startswith("*") or is_size and words[0] == UNTOLD):
             yield number, words
             is_size = words == ["begin"]
@@ -68,15 +73,69 @@ def count_of(word, line, what):
     return int(word)
 
 
+def without_last_end(lines):
+    return [it for it in lines if it[1] != ["end"]]
+
+
+class Runs:
+    """What lrslib writes where its numbers grow too long: it begins again with longer ones, and goes on.
+
+    Each run has a head, 'begin', and the rows that it found; the last one has 'end'. All these rows are
+    of one polyhedron, and some may stand in more than one run.
+    """
+
+    def __init__(self, lines):
+        self.begins = [at for at, (_, words) in enumerate(lines) if words == ["begin"]]
+        self.lines = lines
+
+    def are_several(self):
+        """Whether there is more than one run, each of which leaves the number of its rows open."""
+        sizes = [self.lines[at + 1][1] for at in self.begins if at + 1 < len(self.lines)]
+        is_open = lambda words: len(words) == 3 and words[0] == UNTOLD
+        return len(self.begins) > 1 and len(sizes) == len(self.begins) and all(map(is_open, sizes)) and len({it[1] for it in sizes}) == 1
+
+    def parts(self):
+        """The lines of each run: a head, and what stands from 'begin' to 'end', which is added where it is missing."""
+        found, start = [], 0
+        for place, at in enumerate(self.begins):
+            is_last = place == len(self.begins) - 1
+            end = len(self.lines) if is_last else self.end_of_rows(at)
+            part = self.lines[start:end]
+            found.append(part if is_last else [*without_last_end(part), (part[-1][0], ["end"])])
+            start = end
+        return found
+
+    def end_of_rows(self, begin):
+        """Where the rows behind a 'begin' end: at the first line that has no row of so many numbers."""
+        columns, at = self.lines[begin + 1][1][1], begin + 2
+        while all(map(ENTRY.fullmatch, self.lines[at][1])) and str(len(self.lines[at][1])) == columns:
+            at += 1
+        return at + (self.lines[at][1] == ["end"])
+
+
+def joined_runs(files):
+    """One file of several runs: each row once, the linear ones first."""
+    linear, others = {}, {}
+    for file in files:
+        for at, (row, line) in enumerate(zip(file.rows, file.lines), 1):
+            (linear if at in (file.linear or []) else others).setdefault(tuple(row), line)
+    last = files[-1]
+    pairs = [*linear.items(), *others.items()]
+    last.rows, last.lines = [list(row) for row, _ in pairs], [line for _, line in pairs]
+    last.linear = list(range(1, len(linear) + 1))
+    return last
+
+
 class Reader:
     """Reads the lines of a file, in three parts: before 'begin', up to 'end', and behind it."""
 
-    def __init__(self, text, notes):
-        self.lines = list(words_of_lines(text))
+    def __init__(self, lines, last, notes, what=None):
+        self.lines = lines
         self.at = 0
-        self.last = text.count("\n") + 1
+        self.last = last
         self.notes = notes
-        self.file = CddFile()
+        self.file = CddFile(what)
+        self.before = what
         self.is_named = False
 
     def next(self, what):
@@ -105,17 +164,21 @@ class Reader:
 
     def read_head_line(self, line, words):
         if words in ([HALF_SPACES], [GENERATORS]):
-            if self.file.what is not None:
+            if self.file.what not in (None, self.before) or self.before not in (None, words[0]):
                 raise Refusal(line, "a second representation")
-            self.file.what = words[0]
+            self.file.what, self.before = words[0], None
         elif words[0] == "linearity":
             self.read_linearity(line, words)
         elif words[0] in CHANGING or words[0] in HARMLESS or words == ["nonnegative"]:
             self.read_option(line, words)
-        elif not self.is_named and self.file.what is None and self.file.linear is None:
+        elif self.may_be_name():
             self.is_named = True
         else:
             raise Refusal(line, f"{shown(' '.join(words))} is not understood")
+
+    def may_be_name(self):
+        """Whether a line may be a name: the first one, before the representation and the linear rows."""
+        return not self.is_named and self.file.what in (None, self.before) and self.file.linear is None
 
     def read_linearity(self, line, words):
         """How many rows are linear, and which, from 1."""
@@ -235,6 +298,9 @@ class Reader:
         if words == ["nonnegative"]:
             self.read_nonnegative(line)
             return
+        if words == ["hull"] and self.file.what == GENERATORS:
+            self.notes.tell(line, "hull: of generators it is what is meant anyway: left out")
+            return
         if words[0] in CHANGING:
             raise Refusal(line, f"the option '{words[0]}' changes what the file means")
         if words[0] not in HARMLESS:
@@ -314,9 +380,30 @@ def polytope_of(file):
     return thing
 
 
+def read_runs(text, notes):
+    """What a file says, or all runs of a file of lrslib together."""
+    lines, last = list(words_of_lines(text)), text.count("\n") + 1
+    runs = Runs(without_repeated_name(lines, text))
+    if not runs.are_several():
+        return Reader(runs.lines, last, notes).read()
+    files = []
+    for part in runs.parts():
+        files.append(Reader(part, last, notes, files[-1].what if files else None).read())
+    told = "lrslib began anew with longer numbers: the rows of all runs are taken, each once"
+    notes.tell(runs.lines[runs.begins[1]][0], f"{told}, {len(runs.begins)} runs")
+    return joined_runs(files)
+
+
+def without_repeated_name(lines, text):
+    """The lines without a name that lrslib writes again where it begins anew before the representation."""
+    if "*lrs" not in text or len(lines) < 2 or lines[0][1] != lines[1][1]:
+        return lines
+    return without_repeated_name(lines[1:], text)
+
+
 def read_cdd(text, type_name, notes):
     """The polyhedron with its linear program, or the cone, of a file."""
-    file = Reader(text, notes).read()
+    file = read_runs(text, notes)
     if type_name == "Polytope":
         return polytope_of(file)
     if file.objective is not None:

@@ -4,6 +4,7 @@ import re
 
 from cdd_files import read_cdd
 from normaliz_files import read_normaliz
+from normaliz_results import are_results
 from polymake_files import is_saved, read_polymake
 from refusals import Refusal
 from rows_files import are_rows, read_rows
@@ -21,7 +22,7 @@ def form_of(text):
         return SAVED if is_saved(text) else POLYMAKE
     if REPRESENTATION.search(text):
         return CDD
-    if NORMALIZ_HEAD.match(text):
+    if NORMALIZ_HEAD.match(text) or are_results(text):
         return NORMALIZ
     return ROWS if are_rows(text) else None
 

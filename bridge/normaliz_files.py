@@ -1,10 +1,11 @@
-"""Input files of Normaliz: read into a script."""
+"""Files of Normaliz: read into a script."""
 
 import re
 from dataclasses import dataclass, field
 
 import command
 from entries import WHOLE, fraction_of
+from normaliz_results import are_results, read_results
 from properties import Thing
 from refusals import Fault, Refusal, shown
 from scripts import script_lines
@@ -279,6 +280,11 @@ def cone_of(sections, dimension):
 
 
 def read_normaliz(text, notes):
+    """What a file of Normaliz describes: one that it reads, or one that it wrote."""
+    return read_results(text, notes) if are_results(text) else read_input(text, notes)
+
+
+def read_input(text, notes):
     """A polyhedron where a section is inhomogeneous or 'polytope', else a cone."""
     found = Reader(text, notes).read()
     sections, dimension = found.sections, found.dimension
@@ -297,7 +303,7 @@ def read_normaliz(text, notes):
 
 def from_words():
     words = command.parser(
-        "from-normaliz", "Writes an input file of Normaliz as a script of this program."
+        "from-normaliz", "Writes a file of Normaliz, .in or .out, as a script of this program."
     )
     command.add_file(words, needed=True)
     command.add_object(words)
