@@ -13,7 +13,7 @@ import command
 import looks
 import why
 from polymake_files import data_text, read_polymake
-from properties import PROGRAM_PROPERTIES, Kind, by_name
+from properties import PAIRS, PROGRAM_PROPERTIES, Kind, by_name
 from refusals import WORD, Notes, Refusal, shown, told_path
 from replies import names_read_over
 from session import Ended, Session
@@ -93,13 +93,15 @@ def count_of(thing, item):
 
 
 # What is worth asking, by its first names.
-WORTH_ASKING = ("VERTICES", "FACETS", "F_VECTOR", "FAN_DIM", "SIMPLICIAL", "PURE")
+WORTH_ASKING = ("VERTICES", "FACETS", "F_VECTOR", "FAN_DIM", "SIMPLICIAL", "PURE", "DIAMETER", "CONE_DIM")
 
 
-def not_held(thing):
-    """Two properties that the file does not hold."""
+def worth_asking(thing):
+    """Two properties that the file does not hold, or that it holds where it holds all."""
     known = {it.polytope: name for name, it in by_name(thing.type_name).items()}
-    return [known[it] for it in WORTH_ASKING if it in known and it not in thing.values][:2]
+    names = [it for it in WORTH_ASKING if it in known]
+    names += [it for it in known if it not in (*names, *PAIRS, *PAIRS.values(), *GIVEN)]
+    return [known[it] for it in sorted(names, key=lambda it: it in thing.values)][:2]
 
 
 def believed(thing):
@@ -189,7 +191,7 @@ def held_lines(asked):
         yield f"{path}: its linear program {program.name}, with {', '.join(program.values)}"
     for line in size_lines(asked):
         yield f"{path}: {line}"
-    example = " ".join(not_held(thing))
+    example = " ".join(worth_asking(thing))
     if thing.programs:
         example = f"{thing.programs[0].name}.MAXIMAL_VALUE"
     told = f"./polymake {path} {example}; docs/properties.md has all of them"
