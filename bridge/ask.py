@@ -12,6 +12,7 @@ from pathlib import Path
 import command
 import looks
 import why
+from calls import wrapper
 from polymake_files import data_text, read_polymake
 from properties import PAIRS, PROGRAM_PROPERTIES, Kind, by_name
 from refusals import WORD, Notes, Refusal, shown, told_path
@@ -39,12 +40,19 @@ class Asked:
         self.thing = read_polymake(text, Notes()) if is_saved else looks.read_thing(text, notes)
         self.data = text if is_saved else data_text(self.thing)
 
+    def no_name(self, word):
+        """What is said of a word that has not the form of a property's name."""
+        known = [*by_name(self.thing.type_name), *PROGRAM_PROPERTIES]
+        near = difflib.get_close_matches(word.upper(), known, 1, 0.5)
+        hint = f"is {near[0]} meant? " if near else ""
+        told = "names of properties are in capitals, like N_FACETS"
+        return f"there is no property {shown(word)}: {told}: {hint}docs/properties.md has all"
+
     def references(self, word):
         """The objects and properties that a word asks for: p VERTICES, or p.lp MAXIMAL_VALUE."""
         found = PROPERTY.fullmatch(word)
         if not found:
-            told = "is no property, whose names are like N_FACETS: docs/properties.md has all"
-            raise Refusal(None, f"{shown(word)} {told}")
+            raise Refusal(None, self.no_name(word))
         program, name = found.groups()
         names = [it.name for it in self.thing.programs]
         if program not in (None, "LP"):
@@ -194,7 +202,7 @@ def held_lines(asked):
     example = " ".join(worth_asking(thing))
     if thing.programs:
         example = f"{thing.programs[0].name}.MAXIMAL_VALUE"
-    told = f"./polymake {path} {example}; docs/properties.md has all of them"
+    told = f"{wrapper()} {path} {example}; docs/properties.md has all of them"
     yield f"ask for properties: {told}"
 
 
@@ -238,14 +246,10 @@ def give_all(session, asked, options, wanted):
 
 def tell_why(session, asked, options, refused):
     """Why no chain led to properties, in words."""
-    names = [
-        f"{reference.partition('.')[2]}.{name}".lstrip(".")
-        for reference, name, reply in refused
-        if reply.startswith("no 10 ")
-    ]
-    if names:
+    no_chain = [(reference, name) for reference, name, reply in refused if reply.startswith("no 10 ")]
+    if no_chain:
         is_standard = options.rules is None and options.book is None
-        for line in why.lines(session, asked, OBJECT, names, is_standard):
+        for line in why.lines(session, asked, OBJECT, no_chain, is_standard):
             say(line)
 
 

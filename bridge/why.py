@@ -1,15 +1,15 @@
 """Why a property was not found: which rules failed by what, what is held, and what to try."""
 
 import re
-import shlex
 from dataclasses import dataclass
-from pathlib import Path
 
+from calls import bridge, wrapper
 from properties import PAIRS, PROGRAM_PROPERTIES, by_name
 from refusals import told_path
 
 RULE = re.compile(r"(\S+) : rule (.*?) : (.*?) \{ (\S+) \} weight")
 EXCLUDED = re.compile(r"excluded (\S+) (failed|false) (\S+)(?: @(\S+))?")
+BARRED = re.compile(r"barred (\S+) (false|disabled|no-client)(?: (\S+))?")
 
 # What each kind of evidence shows.
 EVIDENCE = {
@@ -21,17 +21,27 @@ EVIDENCE = {
 }
 TOO_MANY_FACES = "more than 65,536 faces come up, or 4,000,000 indices in them"
 
+PUT_ASIDE = {"disabled": "it was disabled", "no-client": "its client was let go, or the program has none"}
+
 DESCRIPTIONS = ("POINTS", "INEQUALITIES", "VERTICES", "FACETS")
 GENERATORS = ("POINTS", "VERTICES")
 
 # The client that finds all faces, whose E5 speaks of these.
 OF_FACES = "faces"
 
+# What is said where the wide rules failed by their numbers too, and where rows are too many.
+TOO_WIDE = (
+    "512 bits on the way did not help: then mostly the answer itself has numbers of more than 127 bits, "
+    "and no rule and no order of the rows gives it, but other coordinates do"
+)
+TOO_MANY = (
+    "to try: a smaller object; where the answer itself has more than 2,048 rows no order of the given rows "
+    "helps, and where it has fewer another order may: lrslib counts them"
+)
+
 # How the labels of the wide rules end, and what leaves 127 bits.
 OF_WIDE = "_wide"
 OF_NUMBERS = {"E1", "E2", "E3", "E4"}
-
-BRIDGES = Path(__file__).resolve().parent
 
 
 @dataclass(frozen=True)
@@ -46,7 +56,7 @@ class Rule:
 
 @dataclass(frozen=True)
 class Exclusion:
-    """A rule that is not tried again: it failed by evidence, or a condition is false."""
+    """A rule that is not tried: it failed by evidence, a condition is false, or it was put aside."""
 
     rule: Rule
     how: str
@@ -73,13 +83,27 @@ def exclusions_of(lines, rules):
             yield Exclusion(rules[it[1]], it[2], it[3], it[4])
 
 
+def barred_of(lines, rules):
+    """The rules that an explanation tells to be held back by what no round found: a condition, or a command."""
+    for line in lines:
+        it = BARRED.fullmatch(line)
+        if it and it[1] in rules:
+            yield Exclusion(rules[it[1]], it[2], it[3], None)
+
+
 class Told:
     """What the session tells of the object after a refusal."""
 
-    def __init__(self, session, thing, name):
+    def __init__(self, session, thing, name, refused):
         self.type_name = thing.type_name
         self.rules = rules_of(session.ask("rules"))
         self.exclusions = list(exclusions_of(session.ask(f"history {name}"), self.rules))
+        labels = {it.rule.label for it in self.exclusions}
+        for reference, asked in refused:
+            for it in barred_of(session.ask(f"explain {reference} {asked}"), self.rules):
+                if it.rule.label not in labels:
+                    self.exclusions.append(it)
+                    labels.add(it.rule.label)
         self.held = {"given": [], "stored": [], "computed": []}
         for prop in by_name(thing.type_name):
             origin = session.ask(f"origin {name} {prop}")[0]
@@ -103,6 +127,8 @@ def reason(told, exclusion):
     if exclusion.how == "false":
         condition = told.names([exclusion.what])
         return f"{finds(told, rule)} was not tried: of this object {condition} is not as it asks"
+    if exclusion.how in PUT_ASIDE:
+        return f"{finds(told, rule)} was not tried: {PUT_ASIDE[exclusion.how]}"
     shown = EVIDENCE.get(exclusion.what, "it cannot go on")
     if exclusion.what == "E5" and rule.client == OF_FACES:
         shown = TOO_MANY_FACES
@@ -115,7 +141,7 @@ def held_lines(told, path):
     """What is held all the same."""
     computed = told.held["computed"]
     if computed:
-        yield f"found all the same: {', '.join(computed)}; ./polymake {path} {computed[0]} shows it"
+        yield f"found all the same: {', '.join(computed)}; {wrapper()} {path} {computed[0]} shows it"
     elif told.held["given"] or told.held["stored"]:
         yield f"held: {', '.join(told.held['stored'] + told.held['given'])}; nothing more was found"
 
@@ -127,19 +153,18 @@ def described(told):
     return [it for it in DESCRIPTIONS if first.get(it) in given]
 
 
-def bridge(name):
-    """A bridge, as it is called from the folder of this call."""
-    path, here = BRIDGES / name, Path.cwd()
-    return shlex.quote(str(path.relative_to(here) if path.is_relative_to(here) else path))
-
-
 def other_program(told, path, given):
     """How a program without the limit is asked."""
     word = "--ext" if given in GENERATORS else "--ine"
     pair = " ".join(told.names([it]) for it in (given, PAIRS[given]))
     words = f"--cone {word}" if told.type_name == "Cone" else word
-    asked = f"./polymake {path} {pair} | {bridge('to-cdd')} {words} > rows && lrs rows"
+    asked = f"{wrapper()} {path} {pair} | {bridge('to-cdd')} {words} > rows && lrs rows"
     return f"to try: an answer that is not proved, by lrslib: {asked}"
+
+
+def is_wide_failure(told):
+    """Whether a wide rule failed by its numbers too."""
+    return any(it.what in OF_NUMBERS and it.rule.label.endswith(OF_WIDE) for it in told.exclusions)
 
 
 def next_lines(told, path, is_standard):
@@ -149,25 +174,30 @@ def next_lines(told, path, is_standard):
     if not given and not kinds:
         yield f"to try: give a description, which is one of {told.names(DESCRIPTIONS)}"
         return
-    if kinds & {"E2", "E5"}:
-        order = "double description takes them one by one"
-        yield f"to try: the same rows in another order, sorted for instance: {order}"
     if kinds & OF_NUMBERS and is_standard:
         yield "to try: the same words without --standard, which go on by numbers of 512 bits"
+    elif is_wide_failure(told):
+        yield TOO_WIDE
     if kinds & OF_NUMBERS:
         ways = "move it to the origin, round to fewer places, scale denominators away"
         yield f"to try: smaller numbers: {ways}"
-    if "E5" in kinds:
-        yield "to try: what needs no more rows than 2,048, of a smaller object"
+    if "E2" in kinds:
+        order = "double description takes them one by one"
+        yield f"to try: the same rows in another order, sorted for instance: {order}"
+    clients = {it.rule.client for it in told.exclusions if it.what == "E5"}
+    if OF_FACES in clients:
+        yield "to try: what needs no faces, as N_EDGES, GRAPH, DIAMETER, SIMPLE and SIMPLICIAL"
+    if clients - {OF_FACES}:
+        yield TOO_MANY
     if given and told.type_name != "Fan" and kinds:
         yield other_program(told, path, given[0])
 
 
 def lines(session, asked, name, refused, is_standard):
-    """What is said after refusals for want of a chain, a line each."""
+    """What is said after refusals for want of a chain, a line each; `refused` has references with properties."""
     thing, path = asked.thing, told_path(asked.path)
-    told = Told(session, thing, name)
-    names = ", ".join(refused)
+    told = Told(session, thing, name, refused)
+    names = ", ".join(f"{of.partition('.')[2]}.{prop}".lstrip(".") for of, prop in refused)
     yield f"{names}: not found, since no chain of rules is left that leads there"
     if not told.exclusions:
         what = told.held["given"] + told.held["stored"]

@@ -13,6 +13,16 @@ EVIDENCE = {
     "E5": "more than 2,048 rays, facets or cells come up, or more than 65,536 faces",
 }
 
+# What is said where the wide rules failed by their numbers too, and where rows or faces are too many.
+TOO_WIDE = (
+    "512 bits on the way did not help: then mostly the answer itself has numbers of more than 127 bits, "
+    "and no rule and no order of the rows gives it, but other coordinates do"
+)
+TOO_MANY = (
+    "to try: a smaller object, or what needs no faces; where the answer itself has more than 2,048 rows no order "
+    "of the given rows helps, and where it has fewer another order may"
+)
+
 # The kinds that say that 127 bits are left.
 OF_NUMBERS = {"E1", "E2", "E3", "E4"}
 
@@ -32,9 +42,15 @@ class Evidence:
     line: str
 
 
+PUT_ASIDE = {"disabled": "it was disabled", "no-client": "its client was let go, or the program has none"}
+
+
 @dataclass(frozen=True)
 class Failure:
-    """A rule that is not tried again: it `failed` by evidence, or a condition that it has is `false`."""
+    """A rule that is not tried: it `failed` by evidence, a condition that it has is `false`, or it was put aside.
+
+    Put aside is one that is `disabled`, or that has `no-client`; then `what` is "".
+    """
 
     label: str
     how: str
@@ -46,6 +62,8 @@ class Failure:
         place = f" for the program {self.program}" if self.program else ""
         if self.how == "false":
             return f"{self.label} was not tried: {self.what} is not as it asks"
+        if self.how in PUT_ASIDE:
+            return f"{self.label} was not tried: {PUT_ASIDE[self.how]}"
         shown = EVIDENCE.get(self.what, "it cannot go on")
         if self.what in OF_NUMBERS and self.label.endswith("_wide"):
             shown = f"not by numbers of 512 bits either; {shown}"
@@ -83,9 +101,10 @@ def subclass(number):
 class NoChain(Refused):
     """Refusal 10: no chain of rules that are not barred leads there.
 
-    `failures` are the rules that failed, each with its evidence, or that were not tried; `held` has
-    each property that is held all the same with its origin; `advice` are lines on what to do; `lines`
-    is the reply.
+    `failures` are the rules that failed in rounds, each with its evidence, or that were not tried there;
+    `barred` are the other rules that are held back, as `explain` tells them: by a condition that is held
+    as false, or since they were put aside; `held` has each property that is held all the same with its
+    origin; `advice` are lines on what to do; `lines` is the reply.
     """
 
     number = 10
@@ -94,12 +113,12 @@ class NoChain(Refused):
     def __init__(self, reply):
         super().__init__(reply)
         self.asked = ""
-        self.failures, self.held, self.advice = [], {}, []
+        self.failures, self.barred, self.held, self.advice = [], [], {}, []
 
     def __str__(self):
         computed = [name for name, origin in self.held.items() if origin != "given"]
         told = [f"{super().__str__()}: {self.asked}".removesuffix(": ")]
-        told += [str(it) for it in self.failures]
+        told += [str(it) for it in [*self.failures, *self.barred]]
         if computed:
             told.append(f"found all the same: {', '.join(computed)}")
         return "\n".join(told + self.advice)
@@ -127,17 +146,19 @@ def is_tried(lines):
     return is_refused(lines) and lines[0].split(" ")[1] in ("10", "11")
 
 
-def advice(failures, held, is_wide):
+def advice(failures, barred, held, is_wide):
     """What to do, by the kinds of evidence, by what is held, and by whether the rules are the wide ones."""
     kinds = {it.what for it in failures if it.how == "failed"}
-    if not kinds and not failures:
+    if not failures and not barred:
         known = ", ".join(held) or "nothing"
         yield f"no rule failed: nothing leads there from {known}; give a description, as points or inequalities"
     if kinds & OF_NUMBERS and not is_wide:
         yield "to try: the wide rules, which are those of Session(): they work by numbers of 512 bits on the way"
-    if kinds & {"E2", "E5"}:
-        yield "to try: the same rows in another order, sorted for instance"
+    elif any(it.what in OF_NUMBERS and it.label.endswith("_wide") for it in failures):
+        yield TOO_WIDE
     if kinds & OF_NUMBERS:
         yield "to try: smaller numbers: move it to the origin, round to fewer places, scale denominators away"
+    if "E2" in kinds:
+        yield "to try: the same rows in another order, sorted for instance"
     if "E5" in kinds:
-        yield "to try: what needs no more rows than 2,048, or no faces, of a smaller object"
+        yield TOO_MANY

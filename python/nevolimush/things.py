@@ -14,6 +14,7 @@ from .table import PROPERTIES
 from .values import copied, read, rows_of, written
 
 EVIDENCE = re.compile(r"evidence (\S+)(?: @(\S+))? (stored )?(E\d)(?: (.*))?")
+BARRED = re.compile(r"barred (\S+) (false|disabled|no-client)(?: (\S+))?")
 EXCLUDED = re.compile(r"excluded (\S+) (failed|false) (\S+)(?: @(\S+))?")
 
 # How many linear programs the program holds of a polytope.
@@ -192,16 +193,27 @@ class Thing(Asked):
             if changes and (not is_refused(lines) or is_tried(lines)) and self._steps and self._steps[-1] != step:
                 self._steps.append(step)
             if is_refused(lines):
-                raise self._refusal(lines, asked)
+                raise self._refusal(lines, asked, line)
             return lines
 
-    def _refusal(self, lines, asked=""):
-        """The exception of a refusal; of one for want of a chain, with what failed and what is held."""
+    def _refusal(self, lines, asked="", line=""):
+        """The exception of a refusal; of one for want of a chain, with what failed, what is held back, and what is held."""
         found = refusal_of(lines)
         if isinstance(found, NoChain):
             found.asked, found.failures, found.held = asked, self.failures, self.held
-            found.advice = list(advice(found.failures, found.held, self._session.is_wide))
+            found.barred = list(self._barred(line, {it.label for it in found.failures}))
+            found.advice = list(advice(found.failures, found.barred, found.held, self._session.is_wide))
         return found
+
+    def _barred(self, line, others):
+        """The rules that `explain` tells to be held back from what a command asks, but the others."""
+        command, _, asked = line.partition(" ")
+        if command not in ("give", "ensure", "explain"):
+            return
+        for it in self._session._ask(f"explain {asked}".replace(HERE, self._name)):
+            found = BARRED.fullmatch(it)
+            if found and found[1] not in others:
+                yield Failure(found[1], found[2], found[3] or "")
 
     @property
     def held(self):

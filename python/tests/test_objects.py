@@ -329,6 +329,27 @@ class Why(Compared):
         self.assertIn(("h_vector", "false", "SIMPLICIAL"), [(it.label, it.how, it.what) for it in caught.exception.failures])
         self.assertIn("h_vector was not tried: SIMPLICIAL is not as it asks", str(caught.exception))
 
+    def test_a_condition_that_is_given_as_false(self):
+        """No round was begun, and explain tells what holds the answer back."""
+        p = Polytope(inequalities=[(0, 1), (1, 1)], BOUNDED=False)
+        with self.assertRaises(NoChain) as caught:
+            p.H_VECTOR
+        self.assertEqual(caught.exception.failures, [])
+        self.assertIn(("h_vector", "false", "BOUNDED"), [(it.label, it.how, it.what) for it in caught.exception.barred])
+        self.assertIn("h_vector was not tried: BOUNDED is not as it asks", str(caught.exception))
+        self.assertNotIn("no rule failed", str(caught.exception))
+
+    def test_a_rule_that_holds_it_back_by_being_disabled(self):
+        p = Polytope(vertices=[(1, 0), (1, 1)], session=Session(rules=None))
+        for label in ("cone_dim_v", "cone_dim_span", "cone_dim_points"):
+            p.disable(label)
+        with self.assertRaises(NoChain) as caught:
+            p.CONE_DIM
+        self.assertIn("cone_dim_v was not tried: it was disabled", str(caught.exception))
+        with self.assertRaises(NoChain) as caught:
+            p.explain("CONE_DIM")
+        self.assertIn("cone_dim_v", [it.label for it in caught.exception.barred])
+
 
 class Shown(unittest.TestCase):
     def test_a_table_of_what_is_held(self):
