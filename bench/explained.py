@@ -3,6 +3,8 @@
 import re
 
 import bridges
+import book_fault
+import plans
 from explaining import REFUSED, Explainer, Line, Pairing
 from spoken import fault_of_line, is_silent
 
@@ -77,6 +79,67 @@ EXPLAINED = [
     ("make p simplex 2\nok\npolar p q\nno 17 NotFit CENTERED", "with the origin in their interior alone (CENTERED)"),
     ("make p cube 33\nno 17 NotFit size", "it is larger than is taken (size)"),
 ]
+
+
+# The plan of a square's N_VERTICES, and what is said of words beside it that the checker does not take.
+PLAN = """plan 41
+rule dd_vertices 40
+rule n_vertices 1
+row 0 00000000000000000000000000000019
+row 40 00000000000000000000000000000079
+"""
+PLAN_FAULTS = [
+    ("Polytope INEQUALITIES : N_VERTICES", PLAN, "the plan begins with CONE_AMBIENT_DIM, EQUATIONS as held too"),
+    ("Polytope CONE_AMBIENT_DIM INEQUALITIES EQUATIONS FACETS : N_VERTICES", PLAN, "the plan does not begin with FACETS as held"),
+    ("Polytope CONE_AMBIENT_DIM INEQUALITIES EQUATIONS : N_VERTICES", "ok\n" + PLAN, "other replies stand before the plan"),
+    ("Polytope POINTS : N_VERTICES", "no 10 NoChain\n", "CONE_AMBIENT_DIM, INPUT_LINEALITY: filled in before a plan is made"),
+    ("--program Polytope CONE_AMBIENT_DIM POINTS INPUT_LINEALITY : LP.MAXIMAL_VALUE", "plan 6\nrow 0 00000000000000000000020000000007\n", "as held too"),
+]
+WORD_FAULTS = [
+    ("Polytope POINTS : F_VECTER", "F_VECTER is no property of polytopes: is F_VECTOR meant?"),
+    ("Polytope POINT : F_VECTOR", "POINT is no property of polytopes: is POINTS meant?"),
+    ("Cone POINTS : F_VECTOR", "POINTS is no property of cones"),
+    ("polytope POINTS : F_VECTOR", "'polytope' is no type, which are Polytope, Cone, Fan: is Polytope meant?"),
+    ("Polytope POINTS F_VECTOR", "':' is missing"),
+    ("Polytope POINTS :", "no property stands behind ':'"),
+    ("Polytope POINTS : LP.MAXIMAL_VALUE", "'--program' before the type takes"),
+]
+
+# Faults of books, with the token that stands there and the text before it.
+BOOK_FAULTS = [
+    ("UnknownProperty", "FACTS", "", "no property is called 'FACTS': is FACETS meant?"),
+    ("UnknownClient", "n_facet", "", "no client is called 'n_facet': is n_facets meant?"),
+    ("SameLabel", "a", "", "a rule before has the label 'a'"),
+    ("WeightRange", "0", "", "a weight is N or CLASS.N"),
+    ("TooManyRules", "a", "", "at most 256 rules"),
+    ("Syntax", "", "", "the text ends too soon"),
+    ("Syntax", "}", "a : rule ", "'}' cannot stand there"),
+    ("Syntax", "N_FACETS", "a : rule N : F { f } weight 1; precondition : ", "a precondition names truth values, as BOUNDED, and N_FACETS is none"),
+    ("SignatureMismatch", "", "a : rule N_VERTICES : FACETS { n_facets } weight 1;", "the client n_facets finds other targets, or from other sources or conditions: LABEL : rule N_FACETS : FACETS { n_facets } weight 1;"),
+    ("SignatureMismatch", "", "a : rule H_VECTOR : F_VECTOR { h_vector } weight 1;", "precondition : BOUNDED, SIMPLICIAL;"),
+]
+
+
+def check_plans_told(check):
+    """What is said of plans and of books that are not taken."""
+    for words, text, told in PLAN_FAULTS:
+        said = " / ".join(plans.plan_faults(words.split(), text))
+        check.is_so(f"a plan beside {words!r}", told in said, f"{said!r}, without {told!r}")
+    for words, told in WORD_FAULTS:
+        said = " / ".join(plans.word_faults(words.split()))
+        check.is_so(f"the words {words!r}", told in said, f"{said!r}, without {told!r}")
+    right = "Polytope CONE_AMBIENT_DIM INEQUALITIES EQUATIONS : N_VERTICES".split()
+    check.same("a plan with its words", [*plans.word_faults(right), *plans.plan_faults(right, PLAN)], [])
+    for fault, token, before, told in BOOK_FAULTS:
+        said = book_fault.MEANINGS[fault](token, before)
+        check.is_so(f"the fault {fault} at {token!r}", told in said, f"{said!r}, without {told!r}")
+    ended = bridges.called("plan-of", [], f"ok\nok\n{PLAN}p N_VERTICES 4\n")
+    check.same("a plan among replies", (ended.status, ended.wrote), (0, PLAN))
+    ended = bridges.called("plan-of", ["--number", "2"], f"ok\n{PLAN}ok\n{PLAN.replace('41', '42')}p N_VERTICES 4\n")
+    check.same("the second plan among replies", (ended.status, ended.wrote), (0, PLAN.replace("41", "42")))
+    for given, told in (("ok\n", "no plan is among these lines"), (PLAN + "ok\n" + PLAN, "2 plans, at the lines 1, 7: --number says which")):
+        ended = bridges.called("plan-of", [], given)
+        check.is_so(f"plans in {given!r:.40}", ended.status == 2 and told in ended.told, ended.told)
 
 
 def pairs(text):

@@ -11,6 +11,7 @@ from pathlib import Path
 
 import command
 import looks
+import plans
 import why
 from calls import wrapper
 from polymake_files import data_text, read_polymake
@@ -68,6 +69,7 @@ def words():
     told = command.parser("ask", "Asks this program about a data file; ./polymake calls it.")
     told.add_argument("--program", required=True, metavar="PATH", help="the built program")
     told.add_argument("--trace", action="store_true", help="print the rounds behind each value")
+    told.add_argument("--plan", metavar="PATH", help="print the plan of each property in place of its value, and what this checker says of it")
     told.add_argument("--rules", metavar="NAME", help="a book of this folder")
     told.add_argument("--book", metavar="PATH", help="the book that is taken where --rules names none")
     told.add_argument("file", metavar="FILE", help="the data file")
@@ -230,6 +232,33 @@ def tell_refusal(asked, reference, name, reply):
         say(f"{name}: too many chains cost less: ask first for what it is found from, like VERTICES")
 
 
+def plan_all(session, asked, options, wanted, folder):
+    """The plan of each property in short, with what the checker says of it; and the properties that have none."""
+    refused = []
+    for reference, name in wanted:
+        found = plans.explained(session, reference, asked.thing.type_name, [name])
+        print(f"{shown_name(reference, name)}: {found.short}")
+        if found.lines[0].startswith(("plan ", "no 10 ")) and os.access(options.plan, os.X_OK):
+            said = plans.verdict(options.plan, found, book_name(options), folder)
+            print(f"    {said}: check-plan {' '.join(found.words)}", flush=True)
+        if found.lines[0].startswith("no "):
+            refused.append((reference, name, found.lines[0]))
+    for it in refused:
+        tell_refusal(asked, *it)
+    tell_why(session, asked, options, refused)
+    return refused
+
+
+def shown_name(reference, name):
+    """A property, with its linear program before it."""
+    return f"{reference.partition('.')[2]}.{name}".lstrip(".")
+
+
+def book_name(options):
+    """The book as the folder of the run has it, or None."""
+    return options.rules if options.rules is not None else options.book and Path(options.book).name
+
+
 def give_all(session, asked, options, wanted):
     """The properties that are asked, and those that were refused."""
     refused = []
@@ -265,6 +294,8 @@ def run(asked, options, folder):
             told = "; ".join(beyond_lines(asked.thing)) or "docs/from-polymake.md has what a file may hold"
             say(f"{told_path(asked.path)}: the program refuses it, {shown(lines[0], 60)}: {told}")
             return 1
+        if options.plan is not None:
+            return 1 if plan_all(session, asked, options, wanted, folder) else 0
         return 1 if give_all(session, asked, options, wanted) else 0
 
 
