@@ -9,6 +9,7 @@ import sys
 import tempfile
 from pathlib import Path
 
+import agreeing
 import command
 import looks
 import plans
@@ -70,6 +71,7 @@ def words():
     told.add_argument("--program", required=True, metavar="PATH", help="the built program")
     told.add_argument("--trace", action="store_true", help="print the rounds behind each value")
     told.add_argument("--plan", metavar="PATH", help="print the plan of each property in place of its value, and what this checker says of it")
+    told.add_argument("--check", action="store_true", help="say whether the values of the file agree with each other")
     told.add_argument("--rules", metavar="NAME", help="a book of this folder")
     told.add_argument("--book", metavar="PATH", help="the book that is taken where --rules names none")
     told.add_argument("file", metavar="FILE", help="the data file")
@@ -299,11 +301,30 @@ def run(asked, options, folder):
         return 1 if give_all(session, asked, options, wanted) else 0
 
 
+def check(asked, options, folder):
+    """Exit status 0 where nothing in the file contradicts, and 1 where something does or nothing is compared."""
+    path = told_path(asked.path)
+    with Session(options.program, program_words(options, folder), folder) as session:
+        lines, compared, left = agreeing.faults(session, asked.thing)
+    for line in lines:
+        print(f"{path}: {line}")
+    if len(compared) < 2:
+        print(f"{path}: nothing stands beside a description: there is nothing to compare")
+    elif not lines:
+        print(f"{path}: these agree: {', '.join(compared)}")
+    if left:
+        print(f"{path}: not compared: {', '.join(left)}")
+    return 1 if lines else 0
+
+
 def answered(options, notes):
     """The exit status of a call whose file is understood."""
     asked = Asked(options.file, notes)
     for line, text in notes.told:
         say(f"{told_path(options.file)}:{line}: {text}")
+    if options.check:
+        with tempfile.TemporaryDirectory() as folder:
+            return check(asked, options, Path(folder))
     if not options.properties:
         print("\n".join(held_lines(asked)), flush=True)
         return 0
