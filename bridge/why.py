@@ -7,7 +7,7 @@ from calls import bridge, wrapper
 from properties import PAIRS, PROGRAM_PROPERTIES, by_name
 from refusals import told_path
 
-RULE = re.compile(r"(\S+) : rule (.*?) : (.*?) \{ (\S+) \} weight")
+RULE = re.compile(r"(\S+) : rule (.*?) : (.*?) \{ (\S+) \} weight [0-9.]+;(?: precondition : (.*);)?")
 EXCLUDED = re.compile(r"excluded (\S+) (failed|false) (\S+)(?: @(\S+))?")
 BARRED = re.compile(r"barred (\S+) (false|disabled|no-client)(?: (\S+))?")
 
@@ -46,12 +46,13 @@ OF_NUMBERS = {"E1", "E2", "E3", "E4"}
 
 @dataclass(frozen=True)
 class Rule:
-    """A rule of the book: its label, what it finds of what, and its client."""
+    """A rule of the book: its label, what it finds of what, its client, and the conditions that it asks for."""
 
     label: str
     targets: tuple
     sources: tuple
     client: str
+    conditions: tuple = ()
 
 
 @dataclass(frozen=True)
@@ -71,7 +72,8 @@ def rules_of(lines):
         it = RULE.match(line)
         if it:
             names = [tuple(part.split(", ")) for part in it.group(2, 3)]
-            found[it[1]] = Rule(it[1], *names, it[4])
+            conditions = tuple(one.lstrip("! ") for one in it[5].split(", ")) if it[5] else ()
+            found[it[1]] = Rule(it[1], *names, it[4], conditions)
     return found
 
 
@@ -83,11 +85,22 @@ def exclusions_of(lines, rules):
             yield Exclusion(rules[it[1]], it[2], it[3], it[4])
 
 
-def barred_of(lines, rules):
+def useful(rules, name):
+    """The labels of the rules that find a property, or something that such a rule reads."""
+    needed, found = {name}, set()
+    while more := {it.label for it in rules.values() if needed & {*it.targets}} - found:
+        found |= more
+        for label in more:
+            needed |= {*rules[label].sources, *rules[label].conditions}
+    return found
+
+
+def barred_of(lines, rules, name):
     """The rules that an explanation tells to be held back by what no round found: a condition, or a command."""
+    labels = useful(rules, name)
     for line in lines:
         it = BARRED.fullmatch(line)
-        if it and it[1] in rules:
+        if it and it[1] in labels:
             yield Exclusion(rules[it[1]], it[2], it[3], None)
 
 
@@ -100,7 +113,8 @@ class Told:
         self.exclusions = list(exclusions_of(session.ask(f"history {name}"), self.rules))
         labels = {it.rule.label for it in self.exclusions}
         for reference, asked in refused:
-            for it in barred_of(session.ask(f"explain {reference} {asked}"), self.rules):
+            first = f"LP.{asked}" if "." in reference else by_name(thing.type_name)[asked].polytope
+            for it in barred_of(session.ask(f"explain {reference} {asked}"), self.rules, first):
                 if it.rule.label not in labels:
                     self.exclusions.append(it)
                     labels.add(it.rule.label)

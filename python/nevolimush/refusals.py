@@ -1,5 +1,6 @@
 """What the program refuses, as exceptions: one class for each number of docs/manual.md."""
 
+import re
 from dataclasses import dataclass
 
 from .table import REFUSALS
@@ -144,6 +145,22 @@ def is_refused(lines):
 def is_tried(lines):
     """Whether a refusal comes after chains were tried, which the object holds in mind."""
     return is_refused(lines) and lines[0].split(" ")[1] in ("10", "11")
+
+
+RULE = re.compile(r"(\S+) : rule (.*?) : (.*?) \{ \S+ \} weight [0-9.]+;(?: precondition : (.*);)?")
+
+
+def useful(lines, names):
+    """The labels of the rules of a book that find one of these names, or something that such a rule reads."""
+    rules = [it.groups() for it in map(RULE.fullmatch, lines) if it]
+    listed = lambda text: {it.lstrip("! ") for it in (text or "").split(", ") if it}
+    needed, found = set(names), set()
+    while more := {it[0] for it in rules if needed & listed(it[1])} - found:
+        found |= more
+        for it in rules:
+            if it[0] in more:
+                needed |= listed(it[2]) | listed(it[3])
+    return found
 
 
 def advice(failures, barred, held, is_wide):

@@ -8,7 +8,7 @@ from itertools import count
 from operator import index
 
 from . import files, shown
-from .refusals import Evidence, Failure, NoChain, Refused, advice, is_refused, is_tried, refusal_of
+from .refusals import Evidence, Failure, NoChain, Refused, advice, is_refused, is_tried, refusal_of, useful
 from .session import FILE, HERE, Step, current
 from .table import PROPERTIES
 from .values import copied, read, rows_of, written
@@ -210,10 +210,19 @@ class Thing(Asked):
         command, _, asked = line.partition(" ")
         if command not in ("give", "ensure", "explain"):
             return
+        reference, *names = asked.split(" ")
+        labels = useful(self._session._ask("rules"), self._first_names(names, "." in reference))
         for it in self._session._ask(f"explain {asked}".replace(HERE, self._name)):
             found = BARRED.fullmatch(it)
-            if found and found[1] not in others:
+            if found and found[1] in labels - others:
                 yield Failure(found[1], found[2], found[3] or "")
+
+    def _first_names(self, names, is_of_program):
+        """The names that a book has for properties of this object, or of its linear programs."""
+        if is_of_program:
+            return {f"LP.{it}" for it in names}
+        known = properties_of(self.type_name)
+        return {known[it].first for it in names if it in known}
 
     @property
     def held(self):
