@@ -1,11 +1,14 @@
 """What is told of refused lines: rows of a line, or of a script, with a part of what is said of it."""
 
 import re
+from types import SimpleNamespace
 
 import bridges
 import book_fault
 import plans
+import why
 from explaining import REFUSED, Explainer, Line, Pairing
+from properties import Thing
 from spoken import fault_of_line, is_silent
 
 # Lines that speak no command.
@@ -118,6 +121,43 @@ BOOK_FAULTS = [
     ("SignatureMismatch", "", "a : rule N_VERTICES : FACETS { n_facets } weight 1;", "the client n_facets finds other targets, or from other sources or conditions: LABEL : rule N_FACETS : FACETS { n_facets } weight 1;"),
     ("SignatureMismatch", "", "a : rule H_VECTOR : F_VECTOR { h_vector } weight 1;", "precondition : BOUNDED, SIMPLICIAL;"),
 ]
+
+
+class Replies:
+    """A session whose replies are known."""
+
+    def __init__(self, history, explained, origins):
+        self.history, self.explained, self.origins = history, explained, origins
+
+    def ask(self, line):
+        word, *words = line.split(" ")
+        if word == "rules":
+            return (bridges.TOP / "wide.rules").read_text().splitlines()
+        if word == "history":
+            return ["rounds 0", *self.history]
+        return ["no 10 NoChain", *self.explained] if word == "explain" else [self.origins.get(words[1], "undef")]
+
+
+# Why a property is not found: the property, what history and explain tell, and parts of what is said and is not said.
+WHYS = [
+    ("H_VECTOR", [], ["barred h_vector false BOUNDED"], ["h_vector (finds H_VECTOR from COMBINATORIAL_DIM, F_VECTOR) was not tried: of this object BOUNDED"], "no rule failed"),
+    ("FACETS", [], ["barred h_vector false BOUNDED"], ["no rule failed: nothing leads there from POINTS"], "h_vector"),
+    ("N_FACETS", [], ["barred n_facets disabled", "barred n_facets_sets no-client"], ["n_facets (finds N_FACETS from FACETS) was not tried: it was disabled", "its client was let go"], "no rule failed"),
+    ("FACETS", ["excluded dd_facets failed E1", "excluded dd_facets_wide failed E1"], ["barred dd_facets failed E1"], ["512 bits on the way did not help", "to try: smaller numbers"], "another order"),
+    ("FACETS", ["excluded dd_facets failed E5"], [], ["where the answer itself has more than 2,048 rows no order of the given rows helps"], "sorted for instance"),
+    ("F_VECTOR", ["excluded faces failed E5"], [], ["what needs no faces", "more than 65,536 faces come up"], "no order of the given rows"),
+]
+
+
+def check_whys(check):
+    """What is said of properties that no chain leads to."""
+    asked = SimpleNamespace(path="p.json", thing=Thing("Polytope"))
+    for name, history, explained, told, not_told in WHYS:
+        session = Replies(history, explained, {"POINTS": "given"})
+        said = "\n".join(why.lines(session, asked, "p", [("p", name)], False))
+        for part in told:
+            check.is_so(f"why {name} is not found", part in said, f"{said!r}, without {part!r}")
+        check.is_so(f"why {name} is not found", not_told not in said, f"{said!r}, with {not_told!r}")
 
 
 def check_plans_told(check):
