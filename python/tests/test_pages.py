@@ -1,4 +1,4 @@
-"""docs/python.md: what its examples show is what they answer."""
+"""docs/python.md and docs/tasks.md: what their examples of Python show is what they answer."""
 
 import doctest
 import os
@@ -9,26 +9,33 @@ import unittest
 from pathlib import Path
 
 PAGE = Path(__file__).resolve().parents[2] / "docs" / "python.md"
+TASKS = PAGE.with_name("tasks.md")
 BLOCK = re.compile(r"^```python\n(.*?)^```$", re.M | re.S)
 
 
 class Page(unittest.TestCase):
     def test_its_examples(self):
+        self.check_examples(PAGE, 40)
+
+    def test_examples_of_tasks(self):
+        self.check_examples(TASKS, 2)
+
+    def check_examples(self, page, least):
         folder, was = tempfile.mkdtemp(), os.getcwd()
         self.addCleanup(shutil.rmtree, folder)
         self.addCleanup(os.chdir, was)
         os.chdir(folder)
-        text = PAGE.read_text()
+        text = page.read_text()
         parser, names, told = doctest.DocTestParser(), {}, []
         runner = doctest.DocTestRunner(verbose=False)
         for block in BLOCK.finditer(text):
             line = text.count("\n", 0, block.start())
-            test = parser.get_doctest(block[1], names, "python.md", str(PAGE), line)
+            test = parser.get_doctest(block[1], names, page.name, str(page), line)
             self.assertTrue(test.examples, f"line {line}: no example")
             runner.run(test, out=told.append, clear_globs=False)
             names = test.globs
         self.assertEqual("".join(told), "")
-        self.assertGreaterEqual(runner.tries, 40)
+        self.assertGreaterEqual(runner.tries, least)
 
     def test_each_task_has_its_script(self):
         tasks = re.split(r"^\*\*\d+\. ", PAGE.read_text().partition("\n## What is given")[0], flags=re.M)[1:]
