@@ -345,7 +345,7 @@ class Telling:
     def hear(self, reply):
         """A line that the program wrote."""
         line = self.pairing.answered(reply)
-        told = self.explainer.told(line, reply) if line is not None else None
+        told = self.told(line, reply) if line is not None else None
         if told is None:
             return
         if told == self.last or self.count == self.most:
@@ -353,6 +353,13 @@ class Telling:
             return
         self.count, self.last = self.count + 1, told
         self.say(f"{self.place(line.number)}: {told}")
+
+    def told(self, line, reply):
+        """What is said of a line; the refusal itself where its reply is not understood, since replies go on whatever is said."""
+        try:
+            return self.explainer.told(line, reply)
+        except (LookupError, ValueError):
+            return reply if REFUSED.fullmatch(reply) else None
 
     def end(self):
         """How many refusals were not told: those beyond the first ones, and those like the one before."""
