@@ -45,7 +45,12 @@ class Found:
 
 
 def whole_descriptions(thing):
-    """The descriptions that are held with both halves; of POINTS and INEQUALITIES the second one may be left out."""
+    """The descriptions that are held with both halves; of POINTS and INEQUALITIES the second one may be left out.
+
+    A fan has one description alone.
+    """
+    if thing.type_name == "Fan":
+        return []
     return [it for it in PAIRS if thing.has(it) and (AS[it] == it or thing.has(PAIRS[it]))]
 
 

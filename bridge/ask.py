@@ -308,7 +308,7 @@ def check(asked, options, folder):
         lines, compared, left = agreeing.faults(session, asked.thing)
     for line in lines:
         print(f"{path}: {line}")
-    if len(compared) < 2:
+    if not lines and len(compared) < 2:
         print(f"{path}: nothing stands beside a description: there is nothing to compare")
     elif not lines:
         print(f"{path}: these agree: {', '.join(compared)}")
