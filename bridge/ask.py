@@ -241,8 +241,9 @@ def plan_all(session, asked, options, wanted, folder):
         found = plans.explained(session, reference, asked.thing.type_name, [name])
         print(f"{shown_name(reference, name)}: {found.short}")
         if found.lines[0].startswith(("plan ", "no 10 ")) and os.access(options.plan, os.X_OK):
-            said = plans.verdict(options.plan, found, book_name(options), folder)
-            print(f"    {said}: check-plan {' '.join(found.words)}", flush=True)
+            book = book_name(options)
+            said = plans.verdict(options.plan, found, book, folder)
+            print(f"    {said}: {' '.join(plans.call_words(found, book))}", flush=True)
         if found.lines[0].startswith("no "):
             refused.append((reference, name, found.lines[0]))
     for it in refused:

@@ -92,11 +92,15 @@ def explained(session, reference, type_name, asked, disabled=()):
     return Explained(lines, words)
 
 
+def call_words(found, book):
+    """The words of the checker for a plan, by the standard rules or by a book."""
+    return ["check-plan", *(["--rules", book] if book else []), *found.words]
+
+
 def verdict(checker, found, book, folder):
     """What the checker says of a plan."""
-    words = [checker, "check-plan", *(["--rules", book] if book else []), *found.words]
     given = "".join(f"{it}\n" for it in found.lines).encode()
-    said = subprocess.run(words, input=given, stdout=subprocess.PIPE, cwd=folder).stdout
+    said = subprocess.run([checker, *call_words(found, book)], input=given, stdout=subprocess.PIPE, cwd=folder).stdout
     return said.decode("utf-8", "replace").rstrip("\n") or "nothing"
 
 
