@@ -8,7 +8,7 @@ ghost use Rattle.std.specs.Prelude.{IfErr, IfOk, length, ◌<◌, ◌^◌, ◌�
 
 use crate::enough::Enough;
 use crate::keep::{kept_places, thin_marks};
-use pm_elim::echelon;
+use pm_elim::echelon_by;
 use pm_incidence::{Kept, ThinFail, with_marked};
 use pm_vector::Ints;
 use std::alloc::Global;
@@ -37,7 +37,7 @@ pub(crate) fn kept_of(
     ensures failed { IfErr result (IsRedundancyFail cols rows.now lines.now) }
 {
     let group = with_marked(alloc, lines, rows, line_marks)?;
-    let basis = echelon(alloc, &group, cols)?;
+    let basis = echelon_by(alloc, &group, cols, wide)?;
     let marks = thin_marks(alloc, cols, rows, lines, line_marks, enough, wide)?;
     let places = kept_places(alloc, rows, line_marks, &marks)?;
     Ok(Kept { basis, places })
