@@ -40,7 +40,7 @@ use Rattle.std.specs.Prelude.{IsTrue, List, [], length, ℕ, ◌++◌, ◌∷◌
 
 -- the client takes the row list
 abbrev pub TakesRowList : ViewSeen → Type 0
-TakesRowList v = Contains (eliminated_by v.kind.name) row_list
+TakesRowList v = Contains (eliminated_by v.kind) row_list
 
 pub fails_by_list : (v : ViewSeen) (X : List Row) (f : ElimFail) → TakesRowList v → IsRowList v X → IfWide f (λ e. IsEvidence v.cols X e) → FailsRightly v (fail_of f)
 fails_by_list v X (Wide e) takes listed h = inl (record { list = row_list; named = takes; rows = X; listed = listed; shown = h })
@@ -51,19 +51,19 @@ eliminates_in Lists (Wide e) h = h
 eliminates_in Lists Memory h = tt
 
 -- a cone's rows
-pub fails_by_cone : (v : ViewSeen) (X : List Row) (f : ElimFail) → Contains (eliminated_by v.kind.name) cone_rows → IsConeList v X → IfWide f (λ e. IsEvidence v.cols X e) → FailsRightly v (fail_of f)
+pub fails_by_cone : (v : ViewSeen) (X : List Row) (f : ElimFail) → Contains (eliminated_by v.kind) cone_rows → IsConeList v X → IfWide f (λ e. IsEvidence v.cols X e) → FailsRightly v (fail_of f)
 fails_by_cone v X (Wide e) takes listed h = inl (record { list = cone_rows; named = takes; rows = X; listed = listed; shown = h })
 fails_by_cone v X Memory takes listed h = tt
 
 -- ---- double description
-module _ (v : ViewSeen) (named : IsTrue (has_way v.kind.name doubling)) (takes : eliminated_by v.kind.name ≡ first_part ∷ double_list ∷ enlarging_rows ∷ []) where
-  first_taken : Contains (eliminated_by v.kind.name) first_part
+module _ (v : ViewSeen) (named : IsTrue (has_way v.kind doubling)) (takes : eliminated_by v.kind ≡ first_part ∷ double_list ∷ enlarging_rows ∷ []) where
+  first_taken : Contains (eliminated_by v.kind) first_part
   first_taken = rw takes (Contains_among (here {xs = double_list ∷ enlarging_rows ∷ []}))
 
-  double_taken : Contains (eliminated_by v.kind.name) double_list
+  double_taken : Contains (eliminated_by v.kind) double_list
   double_taken = rw takes (Contains_among (there (here {xs = enlarging_rows ∷ []})))
 
-  enlarging_taken : Contains (eliminated_by v.kind.name) enlarging_rows
+  enlarging_taken : Contains (eliminated_by v.kind) enlarging_rows
   enlarging_taken = rw takes (Contains_among (there (there (here {xs = []}))))
 
   -- on the elimination of the first part
@@ -147,7 +147,7 @@ half_space_row v p X x h kind c some = row_of v is_half_space p h.cols h.rows X 
 one_of : (A E : List Row) (x : Row) → Contains (A ++ E) x → Contains A x ⊎ Contains E x
 one_of A E x c = elim (among_append A E (among_Contains (A ++ E) c)) [ inl i ↦ inl (Contains_among i) | inr i ↦ inr (Contains_among i) ]
 
-module _ (v : ViewSeen) (thinning_takes : eliminated_by v.kind.name ≡ flat_rows ∷ flat_basis_and_row ∷ []) (takes_products : IsTrue (has_way v.kind.name products)) where
+module _ (v : ViewSeen) (thinning_takes : eliminated_by v.kind ≡ flat_rows ∷ flat_basis_and_row ∷ []) (takes_products : IsTrue (has_way v.kind products)) where
   -- on an elimination
   wide_reduction : (L G A : List Row) → TellLines v L G A → (e : EliminationStep) → IsWideReduction v.cols G L A e → IsWideElimination v e
   wide_reduction L G A told e h = elim h.listed [
@@ -170,7 +170,7 @@ module _ (v : ViewSeen) (thinning_takes : eliminated_by v.kind.name ≡ flat_row
   fails_by_points L G A thinning.Memory l g a none h = tt
 
   -- INEQUALITIES by VERTICES
-  pub fails_by_inequalities : IsTrue (has_way v.kind.name facet_count) → (E A V : List Row) (f : ThinFail) → AreRowsOf v Equations E → AreRowsOf v Inequalities A → AreRowsOf v Vertices V → length A ≤ most_rows → IsFacetsFail v.of v.cols A E V f → FailsRightly v (fail_of_thin f)
+  pub fails_by_inequalities : IsTrue (has_way v.kind facet_count) → (E A V : List Row) (f : ThinFail) → AreRowsOf v Equations E → AreRowsOf v Inequalities A → AreRowsOf v Vertices V → length A ≤ most_rows → IsFacetsFail v.of v.cols A E V f → FailsRightly v (fail_of_thin f)
   fails_by_inequalities named E A V (thinning.Wide (evidence.E1 step)) e a g few h =
       inl (wide_reduction E (half_spaces v.of v.cols A) V
       (record { first = Equations; second = Inequalities; other = Vertices; parts = refl; told = refl; read = halves_read v E A e a; others = g })
@@ -190,7 +190,7 @@ module _ (v : ViewSeen) (thinning_takes : eliminated_by v.kind.name ≡ flat_row
 
 -- ---- linear programs
 -- whether there is a point
-module _ (v : ViewSeen) (named : IsTrue (has_way v.kind.name feasibility)) (E A : List Row) (e : AreRowsOf v Equations E) (a : AreRowsOf v Inequalities A) where
+module _ (v : ViewSeen) (named : IsTrue (has_way v.kind feasibility)) (E A : List Row) (e : AreRowsOf v Equations E) (a : AreRowsOf v Inequalities A) where
   pub wide_feasibility : (w : Evidence) → ShowsProgram (half_spaces v.of v.cols A) E (no_objective v.cols) w → IsWideFeasibility v w
   wide_feasibility w h = record {
     named = named;
@@ -209,7 +209,7 @@ module _ (v : ViewSeen) (named : IsTrue (has_way v.kind.name feasibility)) (E A 
   fails_by_feasibility program.Memory h = tt
 
 -- ---- rows from sets
-module _ (v : ViewSeen) (sets_take : eliminated_by v.kind.name ≡ row_list ∷ determining_rows ∷ []) where
+module _ (v : ViewSeen) (sets_take : eliminated_by v.kind ≡ row_list ∷ determining_rows ∷ []) where
   wide_by_sets : (first second : PropId) (E A : List Row) (in_sets : List (List ℕ)) → AreSetsOf v first second E A in_sets → added_rows v.of v.cols second ≡ [] → (e : EliminationStep) → from_sets.IsWideOfSets v.cols E A in_sets e → IsWideElimination v e
   wide_by_sets first second E A in_sets read none e h = elim h.listed [
     | inl both ↦ record {
@@ -245,14 +245,14 @@ module _ (v : ViewSeen) (sets_take : eliminated_by v.kind.name ≡ row_list ∷ 
     }
   ]
 
-  pub fails_by_facet_sets : IsTrue (has_way v.kind.name determined_rays) → (E A : List Row) (in_sets : List (List ℕ)) (f : ThinFail) → AreSetsOf v AffineHull Facets E A in_sets → added_rows v.of v.cols Facets ≡ [] → IsSetsFail v.cols E A in_sets f → FailsRightly v (fail_of_thin f)
+  pub fails_by_facet_sets : IsTrue (has_way v.kind determined_rays) → (E A : List Row) (in_sets : List (List ℕ)) (f : ThinFail) → AreSetsOf v AffineHull Facets E A in_sets → added_rows v.of v.cols Facets ≡ [] → IsSetsFail v.cols E A in_sets f → FailsRightly v (fail_of_thin f)
   fails_by_facet_sets named E A in_sets (thinning.Wide (evidence.E1 step)) read none h = inl (wide_by_sets AffineHull Facets E A in_sets read none step h)
   fails_by_facet_sets named E A in_sets (thinning.Wide (evidence.E4 x y)) read none h = inr (inl (inl (named, record { equations = E; inequalities = A; in_sets = in_sets; read = read; wide = h })))
   fails_by_facet_sets named E A in_sets (thinning.Wide e) read none h = absurd h
   fails_by_facet_sets named E A in_sets (thinning.Many e) read none h = absurd h
   fails_by_facet_sets named E A in_sets thinning.Memory read none h = tt
 
-  pub fails_by_ray_sets : IsTrue (has_way v.kind.name determined_facets) → (E A : List Row) (in_sets : List (List ℕ)) (f : ThinFail) → AreSetsOf v LinealitySpace Vertices E A in_sets → added_rows v.of v.cols Vertices ≡ [] → IsTurnedSetsFail v.cols E A in_sets f → FailsRightly v (fail_of_thin f)
+  pub fails_by_ray_sets : IsTrue (has_way v.kind determined_facets) → (E A : List Row) (in_sets : List (List ℕ)) (f : ThinFail) → AreSetsOf v LinealitySpace Vertices E A in_sets → added_rows v.of v.cols Vertices ≡ [] → IsTurnedSetsFail v.cols E A in_sets f → FailsRightly v (fail_of_thin f)
   fails_by_ray_sets named E A in_sets (thinning.Wide (evidence.E1 step)) read none h = inl (wide_by_sets LinealitySpace Vertices E A in_sets read none step h)
   fails_by_ray_sets named E A in_sets (thinning.Wide (evidence.E4 x y)) read none h = inr (inl (inr (named, record { equations = E; inequalities = A; in_sets = in_sets; read = read; wide = h })))
   fails_by_ray_sets named E A in_sets (thinning.Wide e) read none h = absurd h

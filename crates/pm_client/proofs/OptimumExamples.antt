@@ -46,15 +46,15 @@ of_dual e h = record {
 }
 
 -- ---- other clients
-no_dual_found : (sense : Sense) → has_way (codes "dd_vertices") (dual (sought sense)) ≡ false
+no_dual_found : (sense : Sense) → has_way no_rows.kind (dual (sought sense)) ≡ false
 no_dual_found Maximal = refl
 no_dual_found Minimal = refl
 
-no_rays_found : (sense : Sense) → has_way (codes "dd_vertices") (at_rays (sought sense)) ≡ false
+no_rays_found : (sense : Sense) → has_way no_rows.kind (at_rays (sought sense)) ≡ false
 no_rays_found Maximal = refl
 no_rays_found Minimal = refl
 
-no_face_found : (sense : Sense) → has_way (codes "dd_vertices") (at_face (sought sense)) ≡ false
+no_face_found : (sense : Sense) → has_way no_rows.kind (at_face (sought sense)) ≡ false
 no_face_found Maximal = refl
 no_face_found Minimal = refl
 
@@ -68,7 +68,7 @@ no_face : (e : Evidence) → ¬ (IsWideFace no_rows e)
 no_face e h = true≢false (sym h.named ∙ no_face_found h.sense)
 
 -- no least value was read
-no_least : (sense : Sense) → has_way (codes "lp_min_face") (at_face (sought sense)) ≡ true → is_some (fact_of (optimum sense) (of_program (codes "lp_min_face")).facts) ≡ false
+no_least : (sense : Sense) → has_way (of_program (codes "lp_min_face")).kind (at_face (sought sense)) ≡ true → is_some (fact_of (optimum sense) (of_program (codes "lp_min_face")).facts) ≡ false
 no_least Maximal h = absurd (true≢false (sym h))
 no_least Minimal h = refl
 

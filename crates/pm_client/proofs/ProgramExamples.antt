@@ -102,7 +102,7 @@ feasible_rows name e h =
     subst (λ A. ShowsProgram A [] (no_objective 1) e) r.1 (subst (λ E. ShowsProgram h.inequalities E (no_objective 1) e) r.0 h.shown)
 
 -- double description finds no optimum
-pub finds_none : (sense : Sense) (p : PropId) → finds_optimum (codes "dd_vertices") sense p ≡ false
+pub finds_none : (sense : Sense) (p : PropId) → finds_optimum no_rows.kind sense p ≡ false
 finds_none Maximal Facets = refl
 finds_none Maximal Inequalities = refl
 finds_none Maximal p = refl

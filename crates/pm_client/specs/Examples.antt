@@ -41,6 +41,10 @@ named name targets sources = record {
   must_not = 0;
 }
 
+-- a kind of this name, which finds and reads nothing
+abbrev pub kind_named : List ℕ → Kind
+kind_named name = named name 0 0
+
 -- three kinds
 abbrev pub ranks : Kind
 ranks = named (codes "ranks") 1 2
@@ -94,13 +98,13 @@ pub record RowListsAreRead : Type 0 where
   pub memory : fail_of elimination.Memory ≡ fail.Memory
   pub memory_of_double : fail_of_double double.Memory ≡ fail.Memory
   -- what clients eliminate, by their names
-  pub doubling : has_way (codes "dd_facets_v") way.doubling ≡ true
-  pub not_doubling : has_way (codes "hull_from_vertices") way.doubling ≡ false
-  pub placing : has_way (codes "bb_facets") way.cell_count ≡ true
-  pub not_placing : has_way (codes "dd_facets") way.cell_count ≡ false
-  pub placing_doubles : has_way (codes "placing") way.doubling ≡ true
-  pub of_double : eliminated_by (codes "dd_vertices") ≡ first_part ∷ double_list ∷ enlarging_rows ∷ []
-  pub of_ranks : eliminated_by (codes "cone_dim_v") ≡ row_list ∷ []
+  pub doubling : has_way (kind_named (codes "dd_facets_v")) way.doubling ≡ true
+  pub not_doubling : has_way (kind_named (codes "hull_from_vertices")) way.doubling ≡ false
+  pub placing : has_way (kind_named (codes "bb_facets")) way.cell_count ≡ true
+  pub not_placing : has_way (kind_named (codes "dd_facets")) way.cell_count ≡ false
+  pub placing_doubles : has_way (kind_named (codes "placing")) way.doubling ≡ true
+  pub of_double : eliminated_by (kind_named (codes "dd_vertices")) ≡ first_part ∷ double_list ∷ enlarging_rows ∷ []
+  pub of_ranks : eliminated_by (kind_named (codes "cone_dim_v")) ≡ row_list ∷ []
 
 -- a row of one entry
 abbrev pub single : ℕ → Row
@@ -197,12 +201,12 @@ pub record ThinningIsRead : Type 0 where
   pub not_wide : ¬ (IsWideForSets no_points (single 1) (single 1))
   pub not_crowded : ¬ (IsCrowdedThinning no_points [])
   -- what clients eliminate, by their names
-  pub thinning_client : has_way (codes "thin_inequalities_v") way.facet_count ≡ true
-  pub not_thinning : has_way (codes "thin_points_f") way.facet_count ≡ false
-  pub sets_client : has_way (codes "facets_from_sets") way.determined_facets ≡ true
-  pub not_of_sets : has_way (codes "facet_sizes") way.determined_facets ≡ false
-  pub of_thinning : eliminated_by (codes "thin_inequalities_v") ≡ flat_rows ∷ flat_basis_and_row ∷ []
-  pub of_sets : eliminated_by (codes "vertices_from_sets") ≡ row_list ∷ determining_rows ∷ []
+  pub thinning_client : has_way (kind_named (codes "thin_inequalities_v")) way.facet_count ≡ true
+  pub not_thinning : has_way (kind_named (codes "thin_points_f")) way.facet_count ≡ false
+  pub sets_client : has_way (kind_named (codes "facets_from_sets")) way.determined_facets ≡ true
+  pub not_of_sets : has_way (kind_named (codes "facet_sizes")) way.determined_facets ≡ false
+  pub of_thinning : eliminated_by (kind_named (codes "thin_inequalities_v")) ≡ flat_rows ∷ flat_basis_and_row ∷ []
+  pub of_sets : eliminated_by (kind_named (codes "vertices_from_sets")) ≡ row_list ∷ determining_rows ∷ []
   pub memory : fail_of_thin thinning.Memory ≡ fail.Memory
 
 -- a view of a polytope with one column for a client of this name, whose INEQUALITIES and EQUATIONS have no row
@@ -211,11 +215,11 @@ without_rows name = record no_rows { kind = named name 1 2 }
 
 pub record ProgramsAreRead : Type 0 where
   -- what clients eliminate that thin by linear programs
-  pub thinning_client : has_way (codes "thin_points_lp") way.thinning_programs ≡ true
-  pub not_thinning : has_way (codes "thin_points_f") way.thinning_programs ≡ false
-  pub of_thinning : eliminated_by (codes "thin_inequalities_lp") ≡ line_rows ∷ line_basis_and_row ∷ []
-  pub thins_rows : has_way (codes "thin_inequalities_lp") way.facet_count ≡ true
-  pub thins_points : has_way (codes "thin_points_lp") way.facet_count ≡ false
+  pub thinning_client : has_way (kind_named (codes "thin_points_lp")) way.thinning_programs ≡ true
+  pub not_thinning : has_way (kind_named (codes "thin_points_f")) way.thinning_programs ≡ false
+  pub of_thinning : eliminated_by (kind_named (codes "thin_inequalities_lp")) ≡ line_rows ∷ line_basis_and_row ∷ []
+  pub thins_rows : has_way (kind_named (codes "thin_inequalities_lp")) way.facet_count ≡ true
+  pub thins_points : has_way (kind_named (codes "thin_points_lp")) way.facet_count ≡ false
   -- the opposite of x0 >= 0 is not in its cone: the row spans no line, and is reduced by the empty basis
   pub lines : IsEliminated line_rows no_rows []
   pub not_lines : ¬ (IsEliminated line_rows no_rows (single 1 ∷ []))
@@ -271,15 +275,15 @@ of_program name = record {
 
 pub record OptimaAreRead : Type 0 where
   -- what clients find, by their names
-  pub over_rows : finds_optimum (codes "lp_max_rows") Maximal Inequalities ≡ true
-  pub other_sense : finds_optimum (codes "lp_max_rows") Minimal Inequalities ≡ false
-  pub over_facets : finds_optimum (codes "lp_min") Minimal Facets ≡ true
-  pub not_over_facets : finds_optimum (codes "lp_min_rows") Minimal Facets ≡ false
-  pub not_over_vertices : finds_optimum (codes "lp_max_v") Maximal Vertices ≡ false
-  pub at_rays : has_way (codes "lp_min_v") (way.at_rays way.least) ≡ true
-  pub not_at_rays : has_way (codes "lp_min_v") (way.at_rays way.greatest) ≡ false
-  pub at_face : has_way (codes "lp_max_face") (way.at_face way.greatest) ≡ true
-  pub not_at_face : has_way (codes "lp_max_face") (way.at_face way.least) ≡ false
+  pub over_rows : finds_optimum (kind_named (codes "lp_max_rows")) Maximal Inequalities ≡ true
+  pub other_sense : finds_optimum (kind_named (codes "lp_max_rows")) Minimal Inequalities ≡ false
+  pub over_facets : finds_optimum (kind_named (codes "lp_min")) Minimal Facets ≡ true
+  pub not_over_facets : finds_optimum (kind_named (codes "lp_min_rows")) Minimal Facets ≡ false
+  pub not_over_vertices : finds_optimum (kind_named (codes "lp_max_v")) Maximal Vertices ≡ false
+  pub at_rays : has_way (kind_named (codes "lp_min_v")) (way.at_rays way.least) ≡ true
+  pub not_at_rays : has_way (kind_named (codes "lp_min_v")) (way.at_rays way.greatest) ≡ false
+  pub at_face : has_way (kind_named (codes "lp_max_face")) (way.at_face way.greatest) ≡ true
+  pub not_at_face : has_way (kind_named (codes "lp_max_face")) (way.at_face way.least) ≡ false
   pub greatest : optimum Maximal ≡ MaximalValue
   pub least : optimum Minimal ≡ MinimalValue
   -- the objective is the row that was read
@@ -396,8 +400,8 @@ pub record ConesAreRead : Type 0 where
       → SpansCone rays lines X
   pub none_read : (X : List Row) → ¬ (IsConeList no_rows X)
   -- what clients eliminate, by their names
-  pub of_cones : eliminated_by (codes "fan_dims") ≡ cone_rows ∷ []
-  pub not_of_cones : eliminated_by (codes "fan_dim") ≡ []
+  pub of_cones : eliminated_by (kind_named (codes "fan_dims")) ≡ cone_rows ∷ []
+  pub not_of_cones : eliminated_by (kind_named (codes "fan_dim")) ≡ []
 
 -- which failures are with evidence, and which of a number out of the range
 pub record FailsAreRead : Type 0 where

@@ -2,3 +2,4 @@ pub mod Starts
 pub mod Sound
 pub mod Examples
 pub mod Fails
+pub mod ForeignExamples

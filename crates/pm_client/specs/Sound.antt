@@ -49,6 +49,7 @@ use Rattle.pm_simplex.specs.declared.sense.Sense.{Sense}
 use Rattle.pm_simplex.specs.declared.sense.Sense.TheVariants.{Maximal, Minimal}
 use Rattle.pm_simplex.specs.declared.fails.LpFail.{LpFail}
 use Rattle.pm_simplex.specs.declared.fails.LpFail.TheVariants as linear
+use Rattle.pm_props.specs.declared.kind.Kind.{Kind}
 use Rattle.pm_props.specs.declared.property.PropId.{PropId}
 use Rattle.pm_props.specs.declared.property.PropId.TheVariants.{Points, InputLineality, Inequalities, Equations, Vertices, LinealitySpace, Facets, AffineHull, VerticesInFacets, LinearObjective, MaximalValue, MinimalValue, MaximalCones, SiteHeights, Sites}
 use Rattle.pm_standard.specs.Ways.{Optimum, greatest, least}
@@ -259,28 +260,28 @@ IsEliminated cone_rows v X = IsConeList v X
 -- a step in the elimination of a list of its client leaves the range
 pub record IsWideElimination (v : ViewSeen) (e : EliminationStep) : Type 0 where
   pub list : Eliminated
-  pub named : Contains (eliminated_by v.kind.name) list
+  pub named : Contains (eliminated_by v.kind) list
   pub rows : List Row
   pub listed : IsEliminated list v rows
   pub shown : IsEvidence v.cols rows e
 
 -- the client does double description, and with two extreme rays of a front of its list a step leaves the range
 pub record IsWideDoubling (v : ViewSeen) (front : ℕ) (first second : Row) (column : Option ℕ) : Type 0 where
-  pub named : IsTrue (has_way v.kind.name doubling)
+  pub named : IsTrue (has_way v.kind doubling)
   pub rows : List Row
   pub listed : IsDoubleListOf v rows
   pub shown : IsWidePair v.cols rows front first second column
 
 -- the client does double description, and a front of its list has more than most_rows extreme rays
 pub record IsCrowdedDoubling (v : ViewSeen) (front : ℕ) (rays : List Row) : Type 0 where
-  pub named : IsTrue (has_way v.kind.name doubling)
+  pub named : IsTrue (has_way v.kind doubling)
   pub rows : List Row
   pub listed : IsDoubleListOf v rows
   pub shown : IsCrowded v.cols rows front rays
 
 -- the client places the rays, and of a front of its list there are more than most_rows cells
 pub record IsCrowdedPlacing (v : ViewSeen) (front : ℕ) (cells : List (List ℕ)) : Type 0 where
-  pub named : IsTrue (has_way v.kind.name cell_count)
+  pub named : IsTrue (has_way v.kind cell_count)
   pub lines : List Row
   pub rays : List Row
   pub read : AreParts v lines rays
@@ -288,7 +289,7 @@ pub record IsCrowdedPlacing (v : ViewSeen) (front : ℕ) (cells : List (List ℕ
 
 -- a row of a generator property and a row of a half-space property have a product that leaves the range
 pub record AreWideRows (v : ViewSeen) (first second : Row) : Type 0 where
-  pub named : IsTrue (has_way v.kind.name products)
+  pub named : IsTrue (has_way v.kind products)
   pub generator : IsRowOf v is_generator first
   pub half_space : IsRowOf v is_half_space second
   pub wide : IsWideProduct first second
@@ -301,17 +302,17 @@ pub record IsWideDetermined (v : ViewSeen) (first second : PropId) (x y : Row) :
   pub read : AreSetsOf v first second equations inequalities in_sets
   pub wide : IsWideSign v.cols equations inequalities in_sets x y
 
--- the client of this name does so; the ray comes first, be it determined or read
+-- the client does so; the ray comes first, be it determined or read
 abbrev pub IsWideForSets : ViewSeen → Row → Row → Type 0
 IsWideForSets v first second =
-    (IsTrue (has_way v.kind.name determined_rays) × IsWideDetermined v AffineHull Facets first second)
-    ⊎ (IsTrue (has_way v.kind.name determined_facets)
+    (IsTrue (has_way v.kind determined_rays) × IsWideDetermined v AffineHull Facets first second)
+    ⊎ (IsTrue (has_way v.kind determined_facets)
     × IsWideDetermined v LinealitySpace Vertices second first)
 
 -- the client thins by linear programs, and in the program of a row of its list, or of its opposite, over some of the
 -- rows a pivot leaves the range
 pub record IsWideThinningOf (v : ViewSeen) (e : Evidence) : Type 0 where
-  pub named : IsTrue (has_way v.kind.name thinning_programs)
+  pub named : IsTrue (has_way v.kind thinning_programs)
   pub lines : List Row
   pub rows : List Row
   pub read : AreParts v lines rows
@@ -320,7 +321,7 @@ pub record IsWideThinningOf (v : ViewSeen) (e : Evidence) : Type 0 where
 -- the client asks whether INEQUALITIES, with what is added, and EQUATIONS have a point, and in that program, whose
 -- objective is 0, a pivot leaves the range
 pub record IsWideFeasibility (v : ViewSeen) (e : Evidence) : Type 0 where
-  pub named : IsTrue (has_way v.kind.name feasibility)
+  pub named : IsTrue (has_way v.kind feasibility)
   pub equations : List Row
   pub inequalities : List Row
   pub read : ArePartsOf v Equations Inequalities equations inequalities
@@ -335,11 +336,11 @@ abbrev pub sought : Sense → Optimum
 sought Maximal = greatest
 sought Minimal = least
 
--- the client of this name finds the optimum in that sense over FACETS, with a dual, or over INEQUALITIES
-abbrev pub finds_optimum : List ℕ → Sense → PropId → Bool
-finds_optimum name sense Facets = has_way name (optimum_over_facets (sought sense))
-finds_optimum name sense Inequalities = has_way name (optimum_over_rows (sought sense))
-finds_optimum name sense p = false
+-- a client of this kind finds the optimum in that sense over FACETS, with a dual, or over INEQUALITIES
+abbrev pub finds_optimum : Kind → Sense → PropId → Bool
+finds_optimum kind sense Facets = has_way kind (optimum_over_facets (sought sense))
+finds_optimum kind sense Inequalities = has_way kind (optimum_over_rows (sought sense))
+finds_optimum kind sense p = false
 
 -- the optimum in that sense, as a property
 abbrev pub optimum : Sense → PropId
@@ -352,7 +353,7 @@ pub record IsWideOptimum (v : ViewSeen) (e : Evidence) : Type 0 where
   pub sense : Sense
   pub first : PropId
   pub second : PropId
-  pub named : IsTrue (finds_optimum v.kind.name sense second)
+  pub named : IsTrue (finds_optimum v.kind sense second)
   pub parts : IsTrue (are_parts first second)
   pub equations : List Row
   pub inequalities : List Row
@@ -364,7 +365,7 @@ pub record IsWideOptimum (v : ViewSeen) (e : Evidence) : Type 0 where
 -- the client finds an optimum over FACETS, and a row of a dual of their program leaves the range
 pub record IsWideDual (v : ViewSeen) (e : Evidence) : Type 0 where
   pub sense : Sense
-  pub named : IsTrue (has_way v.kind.name (dual (sought sense)))
+  pub named : IsTrue (has_way v.kind (dual (sought sense)))
   pub equations : List Row
   pub inequalities : List Row
   pub reads_equations : AreRowsOf v AffineHull equations
@@ -377,7 +378,7 @@ pub record IsWideDual (v : ViewSeen) (e : Evidence) : Type 0 where
 -- range, or the optimum does
 pub record IsWideAtRays (v : ViewSeen) (e : Evidence) : Type 0 where
   pub sense : Sense
-  pub named : IsTrue (has_way v.kind.name (at_rays (sought sense)))
+  pub named : IsTrue (has_way v.kind (at_rays (sought sense)))
   pub lines : List Row
   pub rays : List Row
   pub reads_lines : AreRowsOf v LinealitySpace lines
@@ -390,7 +391,7 @@ pub record IsWideAtRays (v : ViewSeen) (e : Evidence) : Type 0 where
 -- with a ray does
 pub record IsWideFace (v : ViewSeen) (e : Evidence) : Type 0 where
   pub sense : Sense
-  pub named : IsTrue (has_way v.kind.name (at_face (sought sense)))
+  pub named : IsTrue (has_way v.kind (at_face (sought sense)))
   pub rays : List Row
   pub reads_rays : AreRowsOf v Vertices rays
   pub objective : List Ratio
@@ -409,7 +410,7 @@ IsWideProgramOf v e = IsWideThinningOf v e ⊎ IsWideFeasibility v e ⊎ IsWideO
 
 -- the client thins INEQUALITIES, and at more than most_rows places of these and of what is added stand facet rows
 pub record IsCrowdedThinning (v : ViewSeen) (places : List ℕ) : Type 0 where
-  pub named : IsTrue (has_way v.kind.name facet_count)
+  pub named : IsTrue (has_way v.kind facet_count)
   pub equations : List Row
   pub inequalities : List Row
   pub reads_equations : AreRowsOf v Equations equations
@@ -419,7 +420,7 @@ pub record IsCrowdedThinning (v : ViewSeen) (places : List ℕ) : Type 0 where
 -- the client closes the sets of VERTICES_IN_FACETS, and of these there are more meets, or more places in them, than a
 -- lattice may have
 pub record IsCrowdedLattice (v : ViewSeen) (faces : List (List ℕ)) : Type 0 where
-  pub named : IsTrue (has_way v.kind.name face_count)
+  pub named : IsTrue (has_way v.kind face_count)
   pub index : IndexSets
   pub reads : fact_of VerticesInFacets v.facts ≡ Some (sets index.rows index.cols)
   pub shown : AreTooManyMeets index.cols (sets_of index.rows) faces
@@ -430,7 +431,7 @@ ReadsHeights v W = (n : ℕ) × ReadsMatrix v SiteHeights n (W ∷ [])
 
 -- the client finds the cells of the sites with their heights, and is refused for this
 pub record IsLiftingFail (v : ViewSeen) (f : LiftFail) : Type 0 where
-  pub named : IsTrue (has_way v.kind.name lifting)
+  pub named : IsTrue (has_way v.kind lifting)
   pub sites : List Row
   pub heights : List Ratio
   pub reads_sites : AreRowsOf v Sites sites
@@ -439,7 +440,7 @@ pub record IsLiftingFail (v : ViewSeen) (f : LiftFail) : Type 0 where
 
 -- it finds the Delaunay cells of the sites, and is refused for this
 pub record IsRaisingFail (v : ViewSeen) (f : LiftFail) : Type 0 where
-  pub named : IsTrue (has_way v.kind.name raising)
+  pub named : IsTrue (has_way v.kind raising)
   pub sites : List Row
   pub reads_sites : AreRowsOf v Sites sites
   pub shown : IsRaiseFail v.cols sites f

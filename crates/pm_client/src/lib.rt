@@ -3,6 +3,7 @@
 #![tactic(auto)]
 
 ghost use Rattle.pm_client.specs.Examples.{CellsAreRead, ConesAreRead, DoublesAreRead, FailsAreRead, LatticesAreRead, OptimaAreRead, ProgramsAreRead, RowListsAreRead, StartsAreRead, ThinningIsRead};
+ghost use Rattle.pm_client.specs.ForeignExamples.{ForeignsAreRead};
 ghost use Rattle.pm_client.specs.Sound.{FailsRightly, IsSound};
 ghost use Rattle.pm_client.specs.Starts.{started_once};
 ghost use Rattle.std.specs.Prelude.{IfErr, OnOk, [], ℕ, ◌≡◌};
@@ -214,4 +215,9 @@ pub fn example_cells()
 /// Which failures are with evidence, and which with evidence of a number out of the range.
 pub fn example_fails()
     ensures { FailsAreRead }
+{}
+
+/// How clients of one's own may fail, whose name no rule has.
+pub fn example_foreigns()
+    ensures { ForeignsAreRead }
 {}

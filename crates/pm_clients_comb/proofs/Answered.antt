@@ -61,7 +61,7 @@ sets_sound v m k facets vertices F V s old new h e empty put =
     (subst (λ z. IsPut v VerticesInFacets (sets z.rows z.cols) old new) e (record { targets = h.kind.targets; empty = empty; put = put })) (follows v m k facets vertices F V h)
 
 -- ---- the evidence
-pub fails_rightly : (v : ViewSeen) (m k : ℕ) (facets vertices : List (List Ratio)) (F V : List Row) (e : IncFail) → IsTrue (has_way v.kind.name products) → fact_of Facets v.facts ≡ Some (matrix m facets) → fact_of Vertices v.facts ≡ Some (matrix k vertices)
+pub fails_rightly : (v : ViewSeen) (m k : ℕ) (facets vertices : List (List Ratio)) (F V : List Row) (e : IncFail) → IsTrue (has_way v.kind products) → fact_of Facets v.facts ≡ Some (matrix m facets) → fact_of Vertices v.facts ≡ Some (matrix k vertices)
     → ArePrimitiveRowsOf facets F → ArePrimitiveRowsOf vertices V → IsWideFor F V e → FailsRightly v (fail_of_incidence e)
 fails_rightly v m k facets vertices F V Memory kind g h p q w = tt
 fails_rightly v m k facets vertices F V (Wide (E4 a x)) kind g h p q w =
@@ -73,7 +73,7 @@ fails_rightly v m k facets vertices F V (Wide (E4 a x)) kind g h p q w =
     })
 fails_rightly v m k facets vertices F V (Wide e) kind g h p q w = absurd w
 
-pub fails_either : (v : ViewSeen) (m k : ℕ) (facets vertices : List (List Ratio)) (F V : List Row) (e : IncFail) (wide : Bool) → (wide ≡ true → e ≡ Memory) → (wide ≡ false → IsTrue (has_way v.kind.name products)) → fact_of Facets v.facts ≡ Some (matrix m facets) → fact_of Vertices v.facts ≡ Some (matrix k vertices)
+pub fails_either : (v : ViewSeen) (m k : ℕ) (facets vertices : List (List Ratio)) (F V : List Row) (e : IncFail) (wide : Bool) → (wide ≡ true → e ≡ Memory) → (wide ≡ false → IsTrue (has_way v.kind products)) → fact_of Facets v.facts ≡ Some (matrix m facets) → fact_of Vertices v.facts ≡ Some (matrix k vertices)
     → ArePrimitiveRowsOf facets F → ArePrimitiveRowsOf vertices V → IsWideFor F V e → FailsRightly v (fail_of_incidence e)
 fails_either v m k facets vertices F V e true exact named g h p q w = subst (λ x. FailsRightly v (fail_of_incidence x)) (sym (exact refl)) tt
 fails_either v m k facets vertices F V e false exact named g h p q w = fails_rightly v m k facets vertices F V e (named refl) g h p q w

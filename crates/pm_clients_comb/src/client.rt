@@ -109,7 +109,7 @@ fn vertices_in_facets(
     wide: bool,
 ) -> Result<(), ClientFail>
     requires kind { FindsIncidence view.now.kind }
-    requires multiplies { wide ≡ false → IsTrue (has_way view.now.kind.name products) }
+    requires multiplies { wide ≡ false → IsTrue (has_way view.now.kind products) }
     requires empty { draft.old ≡ record { kind = view.now.kind; values = [] } }
     ensures draft { draft.new.kind ≡ draft.old.kind }
     ensures sound { OnOk result (IsSound view.now draft.new) }

@@ -42,7 +42,7 @@ use Rattle.pm_limits.specs.Limits.{most_columns}
 
 -- ---- failures
 pub fails_for_many : (v : ViewSeen) (index : IndexSets) (f : LatticeFail) → v.kind ≡ standard_kind client.Faces → fact_of VerticesInFacets v.facts ≡ Some (sets index.rows index.cols) → IsShown index f → FailsForMany v (fail_of_lattice f)
-fails_for_many v index (closing.Many (E5Faces faces)) kind reads h = record { named = ap (λ k. has_way k.name face_count) kind; index = index; reads = reads; shown = h }
+fails_for_many v index (closing.Many (E5Faces faces)) kind reads h = record { named = ap (λ k. has_way k face_count) kind; index = index; reads = reads; shown = h }
 fails_for_many v index (closing.Many e) kind reads h = absurd h
 fails_for_many v index closing.Memory kind reads h = tt
 

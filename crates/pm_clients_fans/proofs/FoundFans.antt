@@ -142,6 +142,6 @@ rows_cols v p h m rows xs forms primitive =
     let lengths = all_length v.cols xs (primitive_length m v.cols rows xs (sym e.0 ∙ forms.formed) (sym e.1 ∙ forms.columns) primitive) in
     all_from (λ x. length x ≡ v.cols) xs (λ x i. among_All (λ x. length x ≡ v.cols) i lengths)
 
-pub fails_rightly : (v : ViewSeen) (V L : List Row) (index : IndexSets) (f : ElimFail) → Contains (eliminated_by v.kind.name) cone_rows → ReadsCones v V L index → IfWide f (IsConeEvidence v.cols V L index.rows) → FailsRightly v (fail_of f)
+pub fails_rightly : (v : ViewSeen) (V L : List Row) (index : IndexSets) (f : ElimFail) → Contains (eliminated_by v.kind) cone_rows → ReadsCones v V L index → IfWide f (IsConeEvidence v.cols V L index.rows) → FailsRightly v (fail_of f)
 fails_rightly v V L index (Wide e) takes read h = fails_by_cone v (dimensions.cone_rows V L h.set) (Wide e) takes (record { lines = L; rays = V; reads_lines = read.lines; reads_rays = read.rays; index = index; reads = read.reads; set = h.set; listed = h.listed; rows = refl }) h.shown
 fails_rightly v V L index Memory takes read h = tt

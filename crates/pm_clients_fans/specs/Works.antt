@@ -27,7 +27,7 @@ fan_client work.FanDimsWide = client.FanDimsWide
 pub record FindsDims (kind : Kind) : Type 0 where
   pub targets : kind.targets ≡ set_of (MaximalConesDims ∷ [])
   pub sources : kind.sources ≡ set_of (Vertices ∷ LinealitySpace ∷ MaximalCones ∷ [])
-  pub lists : eliminated_by kind.name ≡ cone_rows ∷ []
+  pub lists : eliminated_by kind ≡ cone_rows ∷ []
 
 -- where `fan_dims` answers, the eliminations stay in the range; where the wide one does, they need not
 abbrev pub FanStays : FanWork → ViewSeen → Type 0

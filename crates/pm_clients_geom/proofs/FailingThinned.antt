@@ -17,7 +17,7 @@ use Rattle.std.proofs.Common.{inl, inr, refl}
 use Rattle.std.specs.Prelude.{IsTrue, List, [], ◌∷◌, ◌≡◌}
 
 -- a client of this kind thins by them
-module _ (v : ViewSeen) (by_programs : IsTrue (has_way v.kind.name thinning_programs)) (alone : eliminated_by v.kind.name ≡ line_rows ∷ line_basis_and_row ∷ []) (L G : List Row) (read : AreParts v L G) where
+module _ (v : ViewSeen) (by_programs : IsTrue (has_way v.kind thinning_programs)) (alone : eliminated_by v.kind ≡ line_rows ∷ line_basis_and_row ∷ []) (L G : List Row) (read : AreParts v L G) where
   -- on an elimination
   wide_lines : (e : EliminationStep) → IsWideRedundancy v.cols G L e → IsWideElimination v e
   wide_lines e h = elim h.listed [
@@ -43,14 +43,14 @@ module _ (v : ViewSeen) (by_programs : IsTrue (has_way v.kind.name thinning_prog
   wide_program e h = absurd h.shown.shown
 
 -- POINTS
-pub fails_by_thin_rays : (v : ViewSeen) → IsTrue (has_way v.kind.name thinning_programs) → eliminated_by v.kind.name ≡ line_rows ∷ line_basis_and_row ∷ [] → (L G : List Row) → AreParts v L G → (f : ThinFail) → IsRedundancyFail v.cols G L f → FailsRightly v (fail_of_thin f)
+pub fails_by_thin_rays : (v : ViewSeen) → IsTrue (has_way v.kind thinning_programs) → eliminated_by v.kind ≡ line_rows ∷ line_basis_and_row ∷ [] → (L G : List Row) → AreParts v L G → (f : ThinFail) → IsRedundancyFail v.cols G L f → FailsRightly v (fail_of_thin f)
 fails_by_thin_rays v programs alone L G read (thinning.Wide (evidence.E1 step)) h = inl (wide_lines v programs alone L G read step h)
 fails_by_thin_rays v programs alone L G read (thinning.Wide e) h = wide_program v programs alone L G read e h
 fails_by_thin_rays v programs alone L G read (thinning.Many e) h = absurd h
 fails_by_thin_rays v programs alone L G read thinning.Memory h = tt
 
 -- INEQUALITIES
-module _ (v : ViewSeen) (programs : IsTrue (has_way v.kind.name thinning_programs)) (alone : eliminated_by v.kind.name ≡ line_rows ∷ line_basis_and_row ∷ []) (counts : IsTrue (has_way v.kind.name facet_count)) (E A : List Row) (e : AreRowsOf v Equations E) (a : AreRowsOf v Inequalities A) where
+module _ (v : ViewSeen) (programs : IsTrue (has_way v.kind thinning_programs)) (alone : eliminated_by v.kind ≡ line_rows ∷ line_basis_and_row ∷ []) (counts : IsTrue (has_way v.kind facet_count)) (E A : List Row) (e : AreRowsOf v Equations E) (a : AreRowsOf v Inequalities A) where
   both_read : AreParts v E (half_spaces v.of v.cols A)
   both_read = record { first = Equations; second = Inequalities; parts = refl; read = halves_read v E A e a }
 

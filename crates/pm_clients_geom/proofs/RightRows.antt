@@ -100,6 +100,6 @@ pub program_as : (v : ViewSeen) → v.of ≡ Polytope → (E A : List Row) (f : 
 program_as v polytope E A f h = subst (λ k. IfWide f (ShowsProgram (half_spaces k v.cols A) E (no_objective v.cols))) (sym polytope) h
 
 -- so `feasible_lp` fails
-pub point_fails : (v : ViewSeen) → IsTrue (has_way v.kind.name feasibility) → (E A : List Row) → AreRowsOf v Equations E → AreRowsOf v Inequalities A → (f : LpFail) → IfWide f (ShowsProgram (half_spaces v.of v.cols A) E (no_objective v.cols)) → FailsForProgram v (fail_of_program f)
+pub point_fails : (v : ViewSeen) → IsTrue (has_way v.kind feasibility) → (E A : List Row) → AreRowsOf v Equations E → AreRowsOf v Inequalities A → (f : LpFail) → IfWide f (ShowsProgram (half_spaces v.of v.cols A) E (no_objective v.cols)) → FailsForProgram v (fail_of_program f)
 point_fails v asks E A e a (Wide w) h = wide_feasibility v asks E A e a w h
 point_fails v asks E A e a Memory h = tt

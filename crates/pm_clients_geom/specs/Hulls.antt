@@ -30,8 +30,8 @@ pub record FindsFacets (kind : Kind) (first second : PropId) : Type 0 where
   pub sources : kind.sources ≡ set_of (second ∷ first ∷ [])
   pub parts : IsTrue (are_parts first second)
   pub generators : IsTrue (is_generator second)
-  pub doubles : IsTrue (has_way kind.name doubling)
-  pub lists : eliminated_by kind.name ≡ first_part ∷ double_list ∷ enlarging_rows ∷ []
+  pub doubles : IsTrue (has_way kind doubling)
+  pub lists : eliminated_by kind ≡ first_part ∷ double_list ∷ enlarging_rows ∷ []
 
 -- a client of the kind does double description, and finds VERTICES and LINEALITY_SPACE from equations and half-spaces
 pub record FindsRays (kind : Kind) (first second : PropId) : Type 0 where
@@ -39,8 +39,8 @@ pub record FindsRays (kind : Kind) (first second : PropId) : Type 0 where
   pub sources : kind.sources ≡ set_of (second ∷ first ∷ [])
   pub parts : IsTrue (are_parts first second)
   pub half_spaces : IsTrue (is_half_space second)
-  pub doubles : IsTrue (has_way kind.name doubling)
-  pub lists : eliminated_by kind.name ≡ first_part ∷ double_list ∷ enlarging_rows ∷ []
+  pub doubles : IsTrue (has_way kind doubling)
+  pub lists : eliminated_by kind ≡ first_part ∷ double_list ∷ enlarging_rows ∷ []
 
 -- rows of the property are taken as half-spaces of a thing of that type: facets cut out the cone over it, the far face
 -- among them

@@ -28,9 +28,9 @@ pub record PlacesRays (kind : Kind) (first second : PropId) : Type 0 where
   pub sources : kind.sources ≡ set_of (second ∷ first ∷ [])
   pub parts : IsTrue (are_parts first second)
   pub generators : IsTrue (is_generator second)
-  pub doubles : IsTrue (has_way kind.name doubling)
-  pub counts : IsTrue (has_way kind.name cell_count)
-  pub lists : eliminated_by kind.name ≡ first_part ∷ double_list ∷ enlarging_rows ∷ []
+  pub doubles : IsTrue (has_way kind doubling)
+  pub counts : IsTrue (has_way kind cell_count)
+  pub lists : eliminated_by kind ≡ first_part ∷ double_list ∷ enlarging_rows ∷ []
 
 -- L and G were read; F are the facet rows of what they generate, H the rows that vanish there, and the sets of places
 -- of G, each once, a triangulation of it

@@ -18,4 +18,4 @@ pub record IsListRank (v : ViewSeen) (first second : PropId) (k : ℕ) : Type 0 
 pub record FindsNullSpace (kind : Kind) (first second target : PropId) : Type 0 where
   pub targets : kind.targets ≡ set_of (target ∷ [])
   pub sources : kind.sources ≡ set_of (second ∷ first ∷ [])
-  pub lists : eliminated_by kind.name ≡ row_list ∷ []
+  pub lists : eliminated_by kind ≡ row_list ∷ []

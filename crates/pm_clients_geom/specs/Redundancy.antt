@@ -14,22 +14,22 @@ use Rattle.std.specs.Prelude.{IsTrue, [], ◌∷◌, ◌≡◌}
 pub record ThinsByPrograms (kind : Kind) : Type 0 where
   pub targets : kind.targets ≡ set_of (Vertices ∷ LinealitySpace ∷ [])
   pub sources : kind.sources ≡ set_of (Points ∷ InputLineality ∷ [])
-  pub lists : eliminated_by kind.name ≡ line_rows ∷ line_basis_and_row ∷ []
-  pub programs : IsTrue (has_way kind.name thinning_programs)
+  pub lists : eliminated_by kind ≡ line_rows ∷ line_basis_and_row ∷ []
+  pub programs : IsTrue (has_way kind thinning_programs)
 
 -- a client of the kind thins INEQUALITIES and EQUATIONS by linear programs, and counts the facets
 pub record ThinsHalvesByPrograms (kind : Kind) : Type 0 where
   pub targets : kind.targets ≡ set_of (Facets ∷ AffineHull ∷ [])
   pub sources : kind.sources ≡ set_of (Inequalities ∷ Equations ∷ [])
-  pub lists : eliminated_by kind.name ≡ line_rows ∷ line_basis_and_row ∷ []
-  pub programs : IsTrue (has_way kind.name thinning_programs)
-  pub counts : IsTrue (has_way kind.name facet_count)
+  pub lists : eliminated_by kind ≡ line_rows ∷ line_basis_and_row ∷ []
+  pub programs : IsTrue (has_way kind thinning_programs)
+  pub counts : IsTrue (has_way kind facet_count)
 
 -- a client of the kind asks the program of INEQUALITIES and EQUATIONS whether there is a point
 pub record AsksForPoint (kind : Kind) : Type 0 where
   pub targets : kind.targets ≡ set_of (Feasible ∷ [])
   pub sources : kind.sources ≡ set_of (Inequalities ∷ Equations ∷ [])
-  pub asks : IsTrue (has_way kind.name feasibility)
+  pub asks : IsTrue (has_way kind feasibility)
 
 -- for want of memory, or with a pivot of the program of half-spaces and the objective 0 that leaves the range
 abbrev pub FailsForProgram : ViewSeen → ClientFail → Type 0

@@ -25,30 +25,30 @@ use Rattle.std.specs.Prelude.{IsTrue, List, [], map, ℕ, ◌∷◌, ◌≡◌, 
 pub record ThinsPoints (kind : Kind) : Type 0 where
   pub targets : kind.targets ≡ set_of (Vertices ∷ LinealitySpace ∷ [])
   pub sources : kind.sources ≡ set_of (Points ∷ InputLineality ∷ Facets ∷ AffineHull ∷ [])
-  pub lists : eliminated_by kind.name ≡ flat_rows ∷ flat_basis_and_row ∷ []
-  pub multiplies : IsTrue (has_way kind.name products)
+  pub lists : eliminated_by kind ≡ flat_rows ∷ flat_basis_and_row ∷ []
+  pub multiplies : IsTrue (has_way kind products)
 
 -- a client of the kind thins INEQUALITIES and EQUATIONS by VERTICES and LINEALITY_SPACE, and counts the facets
 pub record ThinsInequalities (kind : Kind) : Type 0 where
   pub targets : kind.targets ≡ set_of (Facets ∷ AffineHull ∷ [])
   pub sources : kind.sources ≡ set_of (Inequalities ∷ Equations ∷ Vertices ∷ LinealitySpace ∷ [])
-  pub lists : eliminated_by kind.name ≡ flat_rows ∷ flat_basis_and_row ∷ []
-  pub multiplies : IsTrue (has_way kind.name products)
-  pub counts : IsTrue (has_way kind.name facet_count)
+  pub lists : eliminated_by kind ≡ flat_rows ∷ flat_basis_and_row ∷ []
+  pub multiplies : IsTrue (has_way kind products)
+  pub counts : IsTrue (has_way kind facet_count)
 
 -- a client of the kind finds VERTICES from FACETS, AFFINE_HULL and the sets of VERTICES_IN_FACETS
 pub record FindsRaysOfSets (kind : Kind) : Type 0 where
   pub targets : kind.targets ≡ set_of (Vertices ∷ [])
   pub sources : kind.sources ≡ set_of (Facets ∷ AffineHull ∷ VerticesInFacets ∷ [])
-  pub lists : eliminated_by kind.name ≡ row_list ∷ determining_rows ∷ []
-  pub determines : IsTrue (has_way kind.name determined_rays)
+  pub lists : eliminated_by kind ≡ row_list ∷ determining_rows ∷ []
+  pub determines : IsTrue (has_way kind determined_rays)
 
 -- a client of the kind finds FACETS from VERTICES, LINEALITY_SPACE and the sets of VERTICES_IN_FACETS
 pub record FindsFacetsOfSets (kind : Kind) : Type 0 where
   pub targets : kind.targets ≡ set_of (Facets ∷ [])
   pub sources : kind.sources ≡ set_of (Vertices ∷ LinealitySpace ∷ VerticesInFacets ∷ [])
-  pub lists : eliminated_by kind.name ≡ row_list ∷ determining_rows ∷ []
-  pub determines : IsTrue (has_way kind.name determined_facets)
+  pub lists : eliminated_by kind ≡ row_list ∷ determining_rows ∷ []
+  pub determines : IsTrue (has_way kind determined_facets)
 
 -- V is V' wherever these may be rays of a thing of that type, and else there are none
 pub record ArePossibleRays (of : ObjectType) (V' V : List Row) : Type 0 where

@@ -123,7 +123,7 @@ fn rank_of_list(
     requires second { IsTrue (has view.now.kind.sources second) }
     requires parts { IsTrue (are_parts first second) }
     requires nothing_added { added_rows view.now.of view.now.cols second ≡ [] }
-    requires eliminates { Contains (eliminated_by view.now.kind.name) whole_list }
+    requires eliminates { Contains (eliminated_by view.now.kind) whole_list }
     ensures rank { IfOk result (λ k. IsListRank view.now first second k) }
     ensures few { IfOk result (λ k. k ≤ 4096) }
     ensures view { OnOk result (IsView view.now) }

@@ -23,12 +23,12 @@ use Rattle.pm_limits.specs.Limits.{most_rows}
 -- a client of the kind lifts sites to their heights
 pub record LiftsSites (kind : Kind) : Type 0 where
   pub sources : kind.sources ≡ set_of (Sites ∷ SiteHeights ∷ [])
-  pub lifts : IsTrue (has_way kind.name lifting)
+  pub lifts : IsTrue (has_way kind lifting)
 
 -- it raises sites to the paraboloid
 pub record RaisesSites (kind : Kind) : Type 0 where
   pub sources : kind.sources ≡ set_of (Sites ∷ [])
-  pub raises : IsTrue (has_way kind.name raising)
+  pub raises : IsTrue (has_way kind raising)
 
 -- X are the primitive whole rows of the sites that the view reads: at most most_rows, of its columns, and each with a
 -- positive first entry

@@ -47,10 +47,10 @@ module _ (k : Kind) (sense : Sense) (wide : Bool) (is : k ≡ standard_kind (at_
       by Maximal true = refl
       by Minimal true = refl
 
-  pub rays_named : has_way k.name (way.at_rays (sought sense)) ≡ true
-  rays_named = subst (λ (z : Kind). has_way z.name (way.at_rays (sought sense)) ≡ true) (sym is) (by sense wide)
+  pub rays_named : has_way k (way.at_rays (sought sense)) ≡ true
+  rays_named = subst (λ (z : Kind). has_way z (way.at_rays (sought sense)) ≡ true) (sym is) (by sense wide)
     where
-      by : (s : Sense) (w : Bool) → has_way (standard_kind (at_rays s w)).name (way.at_rays (sought s)) ≡ true
+      by : (s : Sense) (w : Bool) → has_way (standard_kind (at_rays s w)) (way.at_rays (sought s)) ≡ true
       by Maximal false = refl
       by Minimal false = refl
       by Maximal true = refl
@@ -76,10 +76,10 @@ module _ (k : Kind) (sense : Sense) (wide : Bool) (is : k ≡ standard_kind (ove
       by Maximal true = refl
       by Minimal true = refl
 
-  pub rows_named : finds_optimum k.name sense Inequalities ≡ true
-  rows_named = subst (λ (z : Kind). finds_optimum z.name sense Inequalities ≡ true) (sym is) (by sense wide)
+  pub rows_named : finds_optimum k sense Inequalities ≡ true
+  rows_named = subst (λ (z : Kind). finds_optimum z sense Inequalities ≡ true) (sym is) (by sense wide)
     where
-      by : (s : Sense) (w : Bool) → finds_optimum (standard_kind (over_rows s w)).name s Inequalities ≡ true
+      by : (s : Sense) (w : Bool) → finds_optimum (standard_kind (over_rows s w)) s Inequalities ≡ true
       by Maximal false = refl
       by Minimal false = refl
       by Maximal true = refl
@@ -105,19 +105,19 @@ module _ (k : Kind) (sense : Sense) (wide : Bool) (is : k ≡ standard_kind (ove
       by Maximal true = refl
       by Minimal true = refl
 
-  pub facets_named : finds_optimum k.name sense Facets ≡ true
-  facets_named = subst (λ (z : Kind). finds_optimum z.name sense Facets ≡ true) (sym is) (by sense wide)
+  pub facets_named : finds_optimum k sense Facets ≡ true
+  facets_named = subst (λ (z : Kind). finds_optimum z sense Facets ≡ true) (sym is) (by sense wide)
     where
-      by : (s : Sense) (w : Bool) → finds_optimum (standard_kind (over_facets s w)).name s Facets ≡ true
+      by : (s : Sense) (w : Bool) → finds_optimum (standard_kind (over_facets s w)) s Facets ≡ true
       by Maximal false = refl
       by Minimal false = refl
       by Maximal true = refl
       by Minimal true = refl
 
-  pub dual_named : has_way k.name (way.dual (sought sense)) ≡ true
-  dual_named = subst (λ (z : Kind). has_way z.name (way.dual (sought sense)) ≡ true) (sym is) (by sense wide)
+  pub dual_named : has_way k (way.dual (sought sense)) ≡ true
+  dual_named = subst (λ (z : Kind). has_way z (way.dual (sought sense)) ≡ true) (sym is) (by sense wide)
     where
-      by : (s : Sense) (w : Bool) → has_way (standard_kind (over_facets s w)).name (way.dual (sought s)) ≡ true
+      by : (s : Sense) (w : Bool) → has_way (standard_kind (over_facets s w)) (way.dual (sought s)) ≡ true
       by Maximal false = refl
       by Minimal false = refl
       by Maximal true = refl
@@ -143,10 +143,10 @@ module _ (k : Kind) (sense : Sense) (wide : Bool) (is : k ≡ standard_kind (at_
       by Maximal true = refl
       by Minimal true = refl
 
-  pub face_named : has_way k.name (way.at_face (sought sense)) ≡ true
-  face_named = subst (λ (z : Kind). has_way z.name (way.at_face (sought sense)) ≡ true) (sym is) (by sense wide)
+  pub face_named : has_way k (way.at_face (sought sense)) ≡ true
+  face_named = subst (λ (z : Kind). has_way z (way.at_face (sought sense)) ≡ true) (sym is) (by sense wide)
     where
-      by : (s : Sense) (w : Bool) → has_way (standard_kind (at_face s w)).name (way.at_face (sought s)) ≡ true
+      by : (s : Sense) (w : Bool) → has_way (standard_kind (at_face s w)) (way.at_face (sought s)) ≡ true
       by Maximal false = refl
       by Minimal false = refl
       by Maximal true = refl

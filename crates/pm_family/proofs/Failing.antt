@@ -11,9 +11,9 @@ use Rattle.std.specs.Prelude.{[], ◌∷◌, ◌≡◌}
 use Rattle.pm_client.proofs.Failing.{TakesRowList}
 
 -- a client whose name says so
-pub takes_alone : (v : ViewSeen) → eliminated_by v.kind.name ≡ row_list ∷ [] → TakesRowList v
+pub takes_alone : (v : ViewSeen) → eliminated_by v.kind ≡ row_list ∷ [] → TakesRowList v
 takes_alone v alone = subst (λ ls. Contains ls row_list) (sym alone) (Contains_among (here {xs = []}))
 
 -- a standard client whose name says so
-pub takes_row_list : (v : ViewSeen) (c : StandardClient) → v.kind ≡ standard_kind c → eliminated_by (standard_kind c).name ≡ row_list ∷ [] → TakesRowList v
-takes_row_list v c kind alone = subst (λ (k : Kind). Contains (eliminated_by k.name) row_list) (sym kind) (subst (λ ls. Contains ls row_list) (sym alone) (Contains_among (here {xs = []})))
+pub takes_row_list : (v : ViewSeen) (c : StandardClient) → v.kind ≡ standard_kind c → eliminated_by (standard_kind c) ≡ row_list ∷ [] → TakesRowList v
+takes_row_list v c kind alone = subst (λ (k : Kind). Contains (eliminated_by k) row_list) (sym kind) (subst (λ ls. Contains ls row_list) (sym alone) (Contains_among (here {xs = []})))

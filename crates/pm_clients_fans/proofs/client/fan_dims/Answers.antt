@@ -30,7 +30,7 @@ stay_by : (wide : Bool) (v : ViewSeen) → (wide ≡ false → ConesStay v) → 
 stay_by false v h = h refl
 stay_by true v h = tt
 
-takes : (v : ViewSeen) → FindsDims v.kind → Contains (eliminated_by v.kind.name) cone_rows
+takes : (v : ViewSeen) → FindsDims v.kind → Contains (eliminated_by v.kind) cone_rows
 takes v kind = rw kind.lists (Contains_among (here {xs = []}))
 
 pub prove-unreachable-requires : goal.prove-unreachable-requires
