@@ -24,7 +24,8 @@ abbrev pub SetsStay : SetsWork → ViewSeen → Type 0
 SetsStay work.Incidence v = StaysInRange v
 SetsStay w v = Unit {0}
 
--- `incidence_wide` fails for want of memory alone, the others with evidence that holds of the view too
+-- `incidence` fails with evidence that holds of the view too, the others, `incidence_wide` among them, for want of
+-- memory alone
 abbrev pub SetsFail : SetsWork → ViewSeen → ClientFail → Type 0
-SetsFail work.IncidenceWide v e = e ≡ Memory
-SetsFail w v e = FailsRightly v e
+SetsFail work.Incidence v e = FailsRightly v e
+SetsFail w v e = e ≡ Memory
