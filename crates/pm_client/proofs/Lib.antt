@@ -1,5 +1,6 @@
 pub mod SameKind
 pub mod Started
+pub mod Meant
 pub mod Foreign
 pub mod ReadValues
 pub mod ReadRows

@@ -1,7 +1,10 @@
 // Boxed clients, and running the first one of a kind.
 
+ghost use Rattle.pm_client.specs.Meanings.{Narrows, meanings};
 ghost use Rattle.pm_client.specs.Sound.{FailsRightly, IsSound};
 ghost use Rattle.pm_client.specs.Starts.{after_start, has_client, kind_at, place_in, started_at, started_once};
+ghost use Rattle.pm_client.specs.declared.ClientFail.{ClientFail};
+ghost use Rattle.pm_object.specs.Reading.{DraftSeen, ViewSeen};
 ghost use Rattle.std.specs.Prelude.{IfErr, IfSome, IsTrue, OnOk, Some, [], length, map, ◌<◌, ◌≡◌};
 
 use crate::{Client, ClientFail};
@@ -29,6 +32,10 @@ fn run_box(
     ensures draft { draft.new.kind ≡ draft.old.kind }
     ensures sound { OnOk result (IsSound view.now draft.new) }
     ensures failed { IfErr result (FailsRightly view.now) }
+    ensures gives { OnOk result (MayPut client.old view.now draft.new) }
+    ensures fails { IfErr result (MayFail client.old view.now) }
+    ensures gives_later { (v : ViewSeen) (d : DraftSeen) → MayPut client.new v d → MayPut client.old v d }
+    ensures fails_later { (v : ViewSeen) (f : ClientFail) → MayFail client.new v f → MayFail client.old v f }
 {
     client.run(alloc, view, draft)
 }
@@ -81,6 +88,11 @@ fn run_at(
     ensures draft { draft.new.kind ≡ draft.old.kind }
     ensures sound { OnOk result (IsSound view.now draft.new) }
     ensures failed { IfErr result (FailsRightly view.now) }
+    ensures gives { OnOk result
+        ((meanings tally MayPut MayFail clients.old.items).Gives view.now draft.new) }
+    ensures fails { IfErr result ((meanings tally MayPut MayFail clients.old.items).Fails view.now) }
+    ensures narrows { Narrows (meanings tally MayPut MayFail clients.old.items)
+        (meanings tally MayPut MayFail clients.new.items) }
 {
     run_box(&mut clients[place], alloc, view, draft)
 }
@@ -99,6 +111,11 @@ pub fn run_first(
     ensures draft { draft.new.kind ≡ draft.old.kind }
     ensures sound { OnOk result (IsSound view.now draft.new) }
     ensures failed { IfErr result (FailsRightly view.now) }
+    ensures gives { OnOk result
+        ((meanings tally MayPut MayFail clients.old.items).Gives view.now draft.new) }
+    ensures fails { IfErr result ((meanings tally MayPut MayFail clients.old.items).Fails view.now) }
+    ensures narrows { Narrows (meanings tally MayPut MayFail clients.old.items)
+        (meanings tally MayPut MayFail clients.new.items) }
 {
     let Some(place) = place_of(clients, view.kind()) else {
         unreachable!()

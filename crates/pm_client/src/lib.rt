@@ -4,8 +4,11 @@
 
 ghost use Rattle.pm_client.specs.Examples.{CellsAreRead, ConesAreRead, DoublesAreRead, FailsAreRead, LatticesAreRead, OptimaAreRead, ProgramsAreRead, RowListsAreRead, StartsAreRead, ThinningIsRead};
 ghost use Rattle.pm_client.specs.ForeignExamples.{ForeignsAreRead};
+ghost use Rattle.pm_client.specs.MeaningExamples.{MeaningsAreRead};
 ghost use Rattle.pm_client.specs.Sound.{FailsRightly, IsSound};
 ghost use Rattle.pm_client.specs.Starts.{started_once};
+ghost use Rattle.pm_client.specs.declared.ClientFail.{ClientFail};
+ghost use Rattle.pm_object.specs.Reading.{DraftSeen, ViewSeen};
 ghost use Rattle.std.specs.Prelude.{IfErr, OnOk, [], ℕ, ◌≡◌};
 
 use pm_dd::DdFail;
@@ -144,10 +147,18 @@ impl<T: Drop> From<AllocFailed<T>> for ClientFail {
 
 /// A client: it answers the targets of its kind from the sources, and counts its starts.
 pub trait Client: Drop {
+    ghost use Rattle.pm_client.specs.declared.ClientFail.{ClientFail};
+    ghost use Rattle.pm_object.specs.Reading.{DraftSeen, ViewSeen};
     ghost use Rattle.pm_props.specs.declared.kind.Kind.{Kind};
 
     // Its kind, and how often it was started.
     ghost tally: { Self → Kind × ℕ };
+
+    // What it may put into an empty draft where it reads this view, beyond being sound; by default anything.
+    ghost MayPut: { Self → ViewSeen → DraftSeen → Type 0 } = { λ _ v d. Unit {0} };
+
+    // How it may fail there, beyond its evidence; by default in any way.
+    ghost MayFail: { Self → ViewSeen → ClientFail → Type 0 } = { λ _ v f. Unit {0} };
 
     /// What it answers, and from what.
     fn kind(&self) -> Kind
@@ -164,7 +175,11 @@ pub trait Client: Drop {
         ensures started { tally self.new ≡ started_once (tally self.old) }
         ensures draft { draft.new.kind ≡ draft.old.kind }
         ensures sound { OnOk result (IsSound view.now draft.new) }
-        ensures failed { IfErr result (FailsRightly view.now) };
+        ensures failed { IfErr result (FailsRightly view.now) }
+        ensures gives { OnOk result (MayPut self.old view.now draft.new) }
+        ensures fails { IfErr result (MayFail self.old view.now) }
+        ensures gives_later { (v : ViewSeen) (d : DraftSeen) → MayPut self.new v d → MayPut self.old v d }
+        ensures fails_later { (v : ViewSeen) (f : ClientFail) → MayFail self.new v f → MayFail self.old v f };
 }
 
 /// The definitions of starts read on three clients.
@@ -220,4 +235,9 @@ pub fn example_fails()
 /// How clients of one's own may fail, whose name no rule has.
 pub fn example_foreigns()
     ensures { ForeignsAreRead }
+{}
+
+/// What clients of a kind may put, and how they may fail.
+pub fn example_meanings()
+    ensures { MeaningsAreRead }
 {}

@@ -88,6 +88,10 @@ impl<F: Family> Client for FamilyClient<F> {
 
     ghost tally = { λ c. (standard_kind (F.client_of c.work), c.starts) };
 
+    ghost MayPut = { λ c v d. F.Stays c.work v d };
+
+    ghost MayFail = { λ c v f. F.Fails c.work v f };
+
     fn kind(&self) -> Kind {
         self.kind
     }
@@ -104,8 +108,10 @@ impl<F: Family> Client for FamilyClient<F> {
         ensures draft { draft.new.kind ≡ draft.old.kind }
         ensures sound { OnOk result (IsSound view.now draft.new) }
         ensures failed { IfErr result (FailsRightly view.now) }
-        ensures stays { OnOk result (F.Stays self.old.work view.now draft.new) }
+        ensures gives { OnOk result (F.Stays self.old.work view.now draft.new) }
         ensures fails { IfErr result (F.Fails self.old.work view.now) }
+        ensures gives_later { (v : ViewSeen) (d : DraftSeen) → F.Stays self.new.work v d → F.Stays self.old.work v d }
+        ensures fails_later { (v : ViewSeen) (f : ClientFail) → F.Fails self.new.work v f → F.Fails self.old.work v f }
     {
         self.count_start();
         F::answer(self.work, alloc, view, draft)

@@ -1,20 +1,19 @@
 -- The value comes: after the one round that is begun all that is asked is held.
+use Rattle.pm_client.specs.Meanings.{unsaid}
 use Rattle.pm_laws_complete.specs.Comes.{ExcludesNone, GiveComes, SomeChainLeadsNow, StandardChainLeadsNow, ValueComes}
 use Rattle.pm_laws_complete.proofs.Complete.{book_is_complete}
 use Rattle.pm_laws_complete.specs.Completeness.{BarsNone}
 use Rattle.pm_rounds.proofs.Following.{names_after}
-use Rattle.pm_rounds.specs.Chains.{AllHeld, held_names, still_missing, table}
-use Rattle.pm_rounds.specs.Events.{Configuration, EndsIn, Ensured, Event, IsTrace, MayBegin, MayCommit, Phase, after_event, after_events, at_rest, begun, committed, configuration, excluded, over, phase_after, phase_after_all, running, settled, started, turn, turns, unsettled, written}
+use Rattle.pm_rounds.specs.Chains.{AllHeld, held_names}
+use Rattle.pm_rounds.specs.Events.{Configuration, EndsIn, Event, IsTrace, MayBegin, MayCommit, Phase, after_event, after_events, at_rest, begun, committed, configuration, excluded, over, phase_after_all, running, settled, started, turn, turns, unsettled, written}
 use Rattle.pm_machine.specs.Steps.{is_asked, no_chain, is_refused}
 use Rattle.pm_rounds.specs.declared.round.Ending.{Ending}
 use Rattle.pm_rounds.specs.declared.round.Ending.TheVariants.{Crowded, Found, NoChain}
-use Rattle.pm_object.specs.State.{State}
 use Rattle.pm_props.proofs.Every.{has-set_of_filter}
 use Rattle.pm_props.proofs.Members.{has-difference}
 use Rattle.pm_props.specs.Properties.{is_in_use}
 use Rattle.pm_props.specs.Sets.{IsSubset, difference, has, only, union}
 use Rattle.pm_props.specs.declared.kind.RuleId.{RuleId}
-use Rattle.pm_props.specs.declared.property.PropId.{PropId}
 use Rattle.pm_props.specs.declared.set.PropSet.{PropSet}
 use Rattle.pm_rules.proofs.Followed.{in_union_cases, in_union_left, in_union_right}
 use Rattle.pm_rules.specs.Chains.{reached, targets_at}
@@ -24,7 +23,7 @@ use Rattle.pm_types.specs.Values.{Fact}
 use Rattle.std.proofs.Common.{ap, inl, inr, refl, subst, sym, true≢false, ◌∙◌}
 use Rattle.std.proofs.lemmas.Bool.{and_parts}
 use Rattle.std.specs.Option.{option_map, unwrap_or}
-use Rattle.std.specs.Prelude.{Bool, IsTrue, List, Option, Some, [], false, not, true, ℕ, ◌&&◌, ◌∷◌, ◌≡◌, ◌⊎◌}
+use Rattle.std.specs.Prelude.{Bool, List, Option, Some, [], false, not, true, ℕ, ◌&&◌, ◌∷◌, ◌≡◌, ◌⊎◌}
 
 decide : (b : Bool) → (b ≡ true) ⊎ (b ≡ false)
 decide true = inl refl
@@ -69,17 +68,17 @@ module _ (book : List Rule) (sub : Option ℕ) (asked : PropSet) where
   turns_promise chain [] c h = h
   turns_promise chain (id ∷ left) c h = h
 
-  committed_promise : (chain : List RuleId) (id : RuleId) (left : List RuleId) (c : Configuration) (answer : List Fact) → MayCommit book sub id c.object answer
+  committed_promise : (chain : List RuleId) (id : RuleId) (left : List RuleId) (c : Configuration) (answer : List Fact) → MayCommit unsaid book sub id c.object answer
       → IsSubset asked (reached book (held_names sub c.object) (id ∷ left)) → Promise (turns chain left) (after_event sub (committed answer) c)
   committed_promise chain id left c answer m h =
       let new = after_event sub (committed answer) c in
-      let names = names_after sub m.rule c.object new.object (record { started = m.started; answer = answer; may_answer = m.may_answer; added = refl }) in
+      let names = names_after unsaid sub m.rule c.object new.object (record { started = m.started; draft = m.draft; gives = m.gives; answer = answer; is = m.is; may_answer = m.may_answer; added = refl }) in
       let more : IsSubset (union (held_names sub c.object) (targets_at book id)) (held_names sub new.object) =
       λ p x. sym (names p) ∙ subst (λ t. has (union (held_names sub c.object) t) p ≡ true) (targets_of id m.rule m.is_rule) x in
       turns_promise chain left new (λ p x. reached_more book left (union (held_names sub c.object) (targets_at book id)) (held_names sub new.object) more p (h p x))
 
   -- so where the round is over, it is held
-  comes : (phase : Phase) (c : Configuration) (events : List Event) → IsTrace book sub asked phase c events → ExcludesNone events → phase_after_all phase events ≡ at_rest → Promise phase c → AllHeld sub asked (after_events sub events c).object
+  comes : (phase : Phase) (c : Configuration) (events : List Event) → IsTrace unsaid book sub asked phase c events → ExcludesNone events → phase_after_all phase events ≡ at_rest → Promise phase c → AllHeld sub asked (after_events sub events c).object
   comes unsettled c events t x e h = absurd h
   comes at_rest c [] t x e h = h
   comes (turn chain id left) c [] t x e h = cc
@@ -125,7 +124,7 @@ module _ (book : List Rule) (sub : Option ℕ) (asked : PropSet) where
   at_once NoChain c some ends n = let l = some ends.barred ends.are_barred in absurd (ends.none.none l.0 l.1)
   at_once Crowded c some ends n = absurd (n refl)
 
-  from_settled : (ending : Ending) (c : Configuration) (events : List Event) → IsTrace book sub asked at_rest c events → ExcludesNone events → phase_after_all at_rest events ≡ at_rest
+  from_settled : (ending : Ending) (c : Configuration) (events : List Event) → IsTrace unsaid book sub asked at_rest c events → ExcludesNone events → phase_after_all at_rest events ≡ at_rest
       → SomeChainLeadsNow book sub asked c → EndsIn book sub asked ending (after_events sub events c) → ¬ (ending ≡ Crowded) → ending ≡ Found
   from_settled ending c [] t x e some ends n = at_once ending c some ends n
   from_settled ending c (begun chain ∷ events) (may, t) x e some ends n =
@@ -136,7 +135,7 @@ module _ (book : List Rule) (sub : Option ℕ) (asked : PropSet) where
   from_settled ending c (excluded out ∷ events) (may, t) x e some ends n = absurd may
   from_settled ending c (written r ∷ events) (may, t) x e some ends n = absurd may
 
-  from_start : (ending : Ending) (c : Configuration) (events : List Event) → IsTrace book sub asked unsettled c events → ExcludesNone events → phase_after_all unsettled events ≡ at_rest
+  from_start : (ending : Ending) (c : Configuration) (events : List Event) → IsTrace unsaid book sub asked unsettled c events → ExcludesNone events → phase_after_all unsettled events ≡ at_rest
       → SomeChainLeadsNow book sub asked (after_event sub settled c) → EndsIn book sub asked ending (after_events sub events c) → ¬ (ending ≡ Crowded) → ending ≡ Found
   from_start ending c [] t x e some ends n = cc
   from_start ending c (settled ∷ events) (may, t) x e some ends n = from_settled ending (after_event sub settled c) events t x.1 e some ends n

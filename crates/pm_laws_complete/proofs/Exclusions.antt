@@ -1,4 +1,5 @@
 -- What events exclude and write down, as is seen of the object before and after.
+use Rattle.pm_client.specs.Meanings.{unsaid}
 use Rattle.std.proofs.Common.{ap, append-nil, append_assoc, refl, subst, sym, ◌∙◌}
 use Rattle.std.proofs.Math.Seq.{drop-append_seam}
 use Rattle.std.specs.List.{Contains}
@@ -80,7 +81,7 @@ module _ (book : List Rule) (sub : Option ℕ) (asked : PropSet) where
     chain : List RuleId
     over_is : phase_after phase (excluded e) ≡ over chain (end_by e.rule e.why)
 
-  ends_round : (phase : Phase) (c : Configuration) (e : Excluded) → MayOccur book sub asked phase c (excluded e) → EndsRound phase e
+  ends_round : (phase : Phase) (c : Configuration) (e : Excluded) → MayOccur unsaid book sub asked phase c (excluded e) → EndsRound phase e
   ends_round unsettled c e may = absurd may
   ends_round at_rest c e may = absurd may
   ends_round (turn chain id left) c e may = record {
@@ -100,7 +101,7 @@ module _ (book : List Rule) (sub : Option ℕ) (asked : PropSet) where
   ends_round (over chain end) c e may = absurd may
 
   -- a round that is over is written down
-  written_down : (chain : List RuleId) (end : RoundEnd) (c : Configuration) (events : List Event) → IsTrace book sub asked (over chain end) c events → phase_after_all (over chain end) events ≡ at_rest
+  written_down : (chain : List RuleId) (end : RoundEnd) (c : Configuration) (events : List Event) → IsTrace unsaid book sub asked (over chain end) c events → phase_after_all (over chain end) events ≡ at_rest
       → (r : RoundSeen) × Among r (rounds_of events) × (r.end ≡ end)
   written_down chain end c [] t e = cc
   written_down chain end c (written r ∷ events) (may, t) e = (r, here, ap (λ (z : RoundSeen). z.end) may)
@@ -118,15 +119,15 @@ module _ (book : List Rule) (sub : Option ℕ) (asked : PropSet) where
     among : Among round (rounds_of events)
     ended : round.end ≡ end_by x.rule x.why
 
-  fails_here : (phase : Phase) (c : Configuration) (e : Excluded) (events : List Event) → MayOccur book sub asked phase c (excluded e) → IsTrace book sub asked (phase_after phase (excluded e)) (after_event sub (excluded e) c) events
+  fails_here : (phase : Phase) (c : Configuration) (e : Excluded) (events : List Event) → MayOccur unsaid book sub asked phase c (excluded e) → IsTrace unsaid book sub asked (phase_after phase (excluded e)) (after_event sub (excluded e) c) events
       → phase_after_all (phase_after phase (excluded e)) events ≡ at_rest → FirstFails e (excluded e ∷ events)
   fails_here phase c e events may t rest =
       let ends = ends_round phase c e may in
       let (r, i, is) = written_down ends.chain (end_by e.rule e.why) (after_event sub (excluded e) c) events
-      (subst (λ z. IsTrace book sub asked z (after_event sub (excluded e) c) events) ends.over_is t) (subst (λ z. phase_after_all z events ≡ at_rest) ends.over_is rest) in
+      (subst (λ z. IsTrace unsaid book sub asked z (after_event sub (excluded e) c) events) ends.over_is t) (subst (λ z. phase_after_all z events ≡ at_rest) ends.over_is rest) in
       record { rule = ends.rule; is_rule = ends.is_rule; place = ends.place; round = r; among = i; ended = is }
 
-  first_fails : (phase : Phase) (c : Configuration) (events : List Event) → IsTrace book sub asked phase c events → phase_after_all phase events ≡ at_rest
+  first_fails : (phase : Phase) (c : Configuration) (events : List Event) → IsTrace unsaid book sub asked phase c events → phase_after_all phase events ≡ at_rest
       → (x : Excluded) (xs : List Excluded) → exclusions events ≡ x ∷ xs → FirstFails x events
   first_fails phase c [] t rest x xs e = absurd (not_empty x xs (sym e))
   first_fails phase c (excluded out ∷ events) (may, t) rest x xs e = subst (λ z. FirstFails z (excluded out ∷ events)) (first_is out x (exclusions events) xs e) (fails_here phase c out events may t rest)
@@ -147,7 +148,7 @@ module _ (book : List Rule) (sub : Option ℕ) (asked : PropSet) where
       record { rule = f.rule; is_rule = f.is_rule; place = f.place; round = f.round; among = there f.among; ended = f.ended }
 
   -- what is seen of it
-  pub excludes_more : (phase : Phase) (old new : Configuration) (leads : TraceLeads book sub asked phase old at_rest new)
+  pub excludes_more : (phase : Phase) (old new : Configuration) (leads : TraceLeads unsaid book sub asked phase old at_rest new)
       → (x : Excluded) (xs : List Excluded) → exclusions leads.events ≡ x ∷ xs → ExcludesMore book sub old.object new.object
   excludes_more phase old new leads x xs e =
       let f = first_fails phase old leads.events leads.trace leads.phase_is x xs e in

@@ -1,6 +1,6 @@
 -- Rules that no event excludes stay free.
 use Rattle.pm_client.specs.Starts.{Clients, after_start, after_start_at, has_client, place_in, same_kind, started_at}
-use Rattle.pm_object.specs.State.{HeldValue, State, is_disabled, value_of}
+use Rattle.pm_object.specs.State.{HeldValue, is_disabled, value_of}
 use Rattle.pm_props.specs.Properties.{every_property}
 use Rattle.pm_props.specs.Places.{same_place}
 use Rattle.pm_props.specs.Sets.{has}
@@ -11,10 +11,9 @@ use Rattle.pm_rounds.proofs.Barred.{any_push}
 use Rattle.pm_rounds.specs.Chains.{is_barred_on, is_excluded, is_truth, is_wrong, place_of_rule, some_wrong}
 use Rattle.pm_object.specs.State.{read_at}
 use Rattle.pm_rounds.specs.Events.{Configuration, Event, after_event, after_events, begun, committed, excluded, settled, started, written}
-use Rattle.pm_rules.specs.Rules.{rule_at}
 use Rattle.pm_rules.specs.declared.rule.Rule.{Rule}
-use Rattle.pm_laws_complete.specs.Spared.{AreFree, KeptRulesStayFree, NeedNothing, Spares, SparesIn}
-use Rattle.std.proofs.Common.{ap, arith, refl, subst, sym, true≢false, ◌∙◌}
+use Rattle.pm_laws_complete.specs.Spared.{KeptRulesStayFree, NeedNothing, Spares, SparesIn}
+use Rattle.std.proofs.Common.{ap, arith, refl, sym, true≢false, ◌∙◌}
 use Rattle.std.specs.List.{list_any}
 use Rattle.std.specs.Option.{is_some}
 use Rattle.std.specs.Prelude.{Bool, IsTrue, List, None, Option, Some, [], false, if◌then◌else◌, nat_eq, not, suc, true, zero, ℕ, ◌&&◌, ◌∷◌, ◌≡◌, ◌||◌}

@@ -1,4 +1,5 @@
 -- The value comes: what is asked of an object is found wherever a chain leads to it and nothing that started failed.
+use Rattle.pm_client.specs.Meanings.{unsaid}
 use Rattle.pm_command.specs.Commands.{RefSeen}
 use Rattle.pm_laws_complete.specs.Completeness.{HoldsAlone, HoldsNeeds, HoldsObjective, descriptions}
 use Rattle.pm_laws_complete.specs.Objects.{BarsNothing}
@@ -46,7 +47,7 @@ SomeChainLeadsNow book sub asked c = (barred : List RuleId) → AreBarred book c
 -- planner was crowded
 abbrev pub ValueComes : Type 0
 ValueComes = (book : List Rule) (sub : Option ℕ) (asked : PropSet) (end : Ending) (old new : Configuration)
-    (e : Ensured book sub asked end old new)
+    (e : Ensured unsaid book sub asked end old new)
     → ExcludesNone e.reaches.events → SomeChainLeadsNow book sub asked (after_event sub settled old)
     → ¬ (end ≡ ending.Crowded) → end ≡ ending.Found
 
@@ -55,12 +56,12 @@ pub record LacksChain (book : List Rule) (old : Machine) : Type 0 where
   pub found : Named
   pub property : PropId
   pub now : Configuration
-  pub ensured : Ensured book found.sub (only property) ending.NoChain
+  pub ensured : Ensured unsaid book found.sub (only property) ending.NoChain
       (configuration found.object old.clients) now
 
 -- where `give` is refused for want of a chain, this was asked
 abbrev pub lacking : {book : List Rule} {old new : Machine} {ref : RefSeen} {text : List ℕ} {more : Remarks}
-    → GiveStep book old ref text (refused NoChain more) new → LacksChain book old
+    → GiveStep unsaid book old ref text (refused NoChain more) new → LacksChain book old
 lacking (is_refused r s) = elim r [ ]
 lacking (is_asked (x, at, p, named, c, no_chain e told, becomes)) =
     record { found = x; property = p; now = c; ensured = e }
@@ -69,7 +70,7 @@ lacking (is_asked (x, at, p, named, c, no_chain e told, becomes)) =
 -- started was excluded
 abbrev pub GiveComes : Type 0
 GiveComes = (book : List Rule) (old new : Machine) (ref : RefSeen) (text : List ℕ) (more : Remarks)
-    (g : GiveStep book old ref text (refused NoChain more) new)
+    (g : GiveStep unsaid book old ref text (refused NoChain more) new)
     → let l = lacking g in ExcludesNone l.ensured.reaches.events
     → SomeChainLeadsNow book l.found.sub (only l.property)
     (after_event l.found.sub settled (configuration l.found.object old.clients)) → ⊥

@@ -1,5 +1,6 @@
 -- Objects as a user gives them, by one description or the first half of one: what they hold once they are settled, what
 -- is found of them, and what happened where something is not.
+use Rattle.pm_client.specs.Meanings.{unsaid}
 use Rattle.std.specs.Prelude.{ℕ, ◌≡◌, ◌⊎◌, ◌||◌, Bool, IsTrue, None, Option, Some, false, List, [], ◌∷◌, ◌++◌}
 use Rattle.std.specs.List.{Contains, list_all}
 use Rattle.pm_client.specs.Starts.{has_client}
@@ -94,7 +95,7 @@ pub record ExcludesMore (book : List Rule) (sub : Option ℕ) (old new : State) 
 -- so where `give` is refused for want of a chain to such a property of what is given so, it has excluded a rule
 abbrev pub RefusedExcludesMore : Type 0
 RefusedExcludesMore = (more : List Rule) (old new : Machine) (ref : RefSeen) (text : List ℕ) (beside : Remarks)
-    → GiveStep (standard_rules ++ more) old ref text (refused NoChain beside) new
+    → GiveStep unsaid (standard_rules ++ more) old ref text (refused NoChain beside) new
     → (x : Named) → named_at (shelf old) ref ≡ Some x → (d : PropId × PropId)
     → IsGivenBy d x.sub (configuration x.object old.clients)
     → (p : PropId) → property_at x text ≡ Some p → HoldsNeeds p (held_names x.sub x.object)

@@ -1,4 +1,5 @@
 -- What commands build of other objects is in line with them.
+use Rattle.pm_client.specs.Meanings.{unsaid}
 use Rattle.pm_command.specs.Commands.{ShapeSeen}
 use Rattle.pm_command.specs.declared.building.Binary.{Binary}
 use Rattle.pm_command.specs.declared.building.Binary.TheVariants.{Minkowski, Product, Refine}
@@ -88,16 +89,16 @@ read_of type ps m n a at r =
 
 module _ (laws : BuildLaws) (book : List Rule) (provenances : Provenances) where
   -- ---- ensuring
-  pub one_keeps : (w : Wanted) (e : Ending) (rounds : List RoundSeen) (old new : Machine) → EnsuresOne book w e rounds old new → AllInLine provenances old → AllInLine provenances new
+  pub one_keeps : (w : Wanted) (e : Ending) (rounds : List RoundSeen) (old new : Machine) → EnsuresOne unsaid book w e rounds old new → AllInLine provenances old → AllInLine provenances new
   one_keeps w e rounds old new it all =
       one_line provenances w.name it.now.object old new it.becomes.object it.becomes.others
       (in_line_ensured book (provenances w.name) None (only w.property) e (configuration it.object old.clients) it.now it.ensured (line_at provenances old w.name it.object it.named all)) all
 
-  pub all_keep : (ws : List Wanted) (rounds : List RoundSeen) (old new : Machine) → EnsuresAll book ws rounds old new → AllInLine provenances old → AllInLine provenances new
+  pub all_keep : (ws : List Wanted) (rounds : List RoundSeen) (old new : Machine) → EnsuresAll unsaid book ws rounds old new → AllInLine provenances old → AllInLine provenances new
   all_keep [] rounds old new (none, s) all = same_line provenances old new s.objects all
   all_keep (w ∷ ws) rounds old new (m, first, more, it, others, are) all = all_keep ws more m new others (one_keeps w ending.Found first old m it all)
 
-  pub ends_keep : (ws : List Wanted) (e : Ending) (rounds : List RoundSeen) (old new : Machine) → EndsAt book ws e rounds old new → AllInLine provenances old → AllInLine provenances new
+  pub ends_keep : (ws : List Wanted) (e : Ending) (rounds : List RoundSeen) (old new : Machine) → EndsAt unsaid book ws e rounds old new → AllInLine provenances old → AllInLine provenances new
   ends_keep [] e rounds old new h all = absurd h
   ends_keep (w ∷ ws) e rounds old new (inl (other, it)) all = one_keeps w e rounds old new it all
   ends_keep (w ∷ ws) e rounds old new (inr (m, first, more, it, others, are)) all = ends_keep ws e more m new others (one_keeps w ending.Found first old m it all)
@@ -180,13 +181,13 @@ module _ (laws : BuildLaws) (book : List Rule) (provenances : Provenances) where
         (in_line_made book _ f (built_savable (Two b) (a ∷ c ∷ []) f (subst (λ z. Makes (Two b) z f) e makes))
         (both_sound b a c f (provenances n) (provenances k) (subst (λ z. Makes (Two b) z f) e makes) (line_at provenances mid n a at all) (line_at provenances mid k c at' all) r.0 r'.0 r.1 r'.1)) all)
 
-  pub built_line : (b : Builder) (old mid new : Machine) (names : List (List ℕ)) (to : List ℕ) (rounds : List RoundSeen) (os : List State) (f : SavedFile) → HasEnsured book b names to rounds os old mid → Makes b os f → Gains to (object_of f) mid new
+  pub built_line : (b : Builder) (old mid new : Machine) (names : List (List ℕ)) (to : List ℕ) (rounds : List RoundSeen) (os : List State) (f : SavedFile) → HasEnsured unsaid book b names to rounds os old mid → Makes b os f → Gains to (object_of f) mid new
       → AllInLine provenances old → AllInLine (put to (provenance_of b (map (lineage_at provenances new) names)) provenances) new
   built_line b old mid new names to rounds os f h makes g all =
       let r = reads_some b in
-      let read = all_have_read book rounds old mid b r.0 r.1 names r.2 h.ensured h.types in
+      let read = all_have_read unsaid book rounds old mid b r.0 r.1 names r.2 h.ensured h.types in
       let kept = all_keep (wanted_all (row_of b).reads names) rounds old mid h.ensured all in
-      by b os makes h.objects read kept (all_none book (wanted_all (row_of b).reads names) rounds old mid to h.ensured h.free.0)
+      by b os makes h.objects read kept (all_none unsaid book (wanted_all (row_of b).reads names) rounds old mid to h.ensured h.free.0)
     where
       by : (b : Builder) (os : List State) → Makes b os f → ObjectsAre mid names os → HaveRead b mid names → AllInLine provenances mid → mid.object to ≡ None → AllInLine (put to (provenance_of b (map (lineage_at provenances new) names)) provenances) new
       by (One b) os makes are read kept free = one_built rounds old mid new names to f g kept free b os makes are read

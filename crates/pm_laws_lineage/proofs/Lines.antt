@@ -1,4 +1,5 @@
 -- What an object was made of, as a fact of one object and of all objects of a machine.
+use Rattle.pm_client.specs.Meanings.{unsaid}
 use Rattle.pm_filing.specs.Filing.{loaded_object, unsettled_object}
 use Rattle.pm_filing.specs.Whole.{is_kept}
 use Rattle.pm_files.specs.Files.{SavedFile}
@@ -110,7 +111,7 @@ module _ (book : List Rule) where
   pub in_line_settled : (provenance : Provenance) (o : State) → InLine provenance o → InLine provenance (with_held o (settling o))
   in_line_settled provenance o s = record { kept = (honesty book).settled o s.kept; knows = λ h. settling_knows o s.knows; count = known_counts (with_held o (settling o)) (settling_knows o s.knows); sound = sound_settled provenance o s.sound; placed = both_placed o.held (settling o) s.placed (settling_placed o) }
 
-  pub in_line_ensured : (provenance : Provenance) (sub : Option ℕ) (asked : PropSet) (ending : Ending) (old new : Configuration) → Ensured book sub asked ending old new → InLine provenance old.object → InLine provenance new.object
+  pub in_line_ensured : (provenance : Provenance) (sub : Option ℕ) (asked : PropSet) (ending : Ending) (old new : Configuration) → Ensured unsaid book sub asked ending old new → InLine provenance old.object → InLine provenance new.object
   in_line_ensured provenance sub asked ending old new e s =
       let (sound, knows) = ensured_keeps provenance book sub asked ending old new e s.sound s.knows in
       record { kept = (honesty book).ensured sub asked ending old new e s.kept; knows = λ h. knows; count = known_counts new.object knows; sound = sound; placed = ensured_placed book sub asked ending old new e s.placed }

@@ -1,4 +1,5 @@
 -- Where memory runs out in a command, each object stands for what it stood for.
+use Rattle.pm_client.specs.Meanings.{unsaid}
 use Rattle.pm_command.specs.Commands.{Spoken, blank, new_object, take_value, give_value, look_up, ensure_values, explain_values, tell_history, show_object, tell_evidence, show_rules, disable_rule, unload_client, copy_object, drop_object, tell_origin, load_object, save_object, make_object, build_object}
 use Rattle.pm_laws_lineage.proofs.Building.{one_keeps}
 use Rattle.pm_laws_lineage.proofs.Laws.{build_laws}
@@ -24,7 +25,7 @@ use Rattle.pm_rules.specs.declared.rule.Rule.{Rule}
 use Rattle.std.proofs.Common.{bytes_eq, inl, inr, subst, sym}
 use Rattle.std.specs.Prelude.{IfSome, List, None, Option, Some, [], ℕ, ◌∷◌, ◌≡◌}
 
-part_stands_for : (book : List Rule) (provenance : Provenance) (sub : Option ℕ) (asked : PropSet) (old new : Configuration) → EnsuredInPart book sub asked old new → InLine provenance old.object → StandsFor (lineage_of provenance new.object) new.object
+part_stands_for : (book : List Rule) (provenance : Provenance) (sub : Option ℕ) (asked : PropSet) (old new : Configuration) → EnsuredInPart unsaid book sub asked old new → InLine provenance old.object → StandsFor (lineage_of provenance new.object) new.object
 part_stands_for book provenance sub asked old new part s =
     held_stands_for provenance new.object ((honesty book).in_part sub asked old new part s.kept) (ensured_in_part_keeps provenance book sub asked old new part s.sound s.knows)
 
@@ -32,7 +33,7 @@ module _ (book : List Rule) (provenances : Provenances) where
   stays_stand : (old new : Machine) → ((q : List ℕ) → new.object q ≡ old.object q) → AllInLine provenances old → AllStandFor provenances new
   stays_stand old new same all = all_stand provenances new (same_line provenances old new same all)
 
-  part_stands : (sub : Option ℕ) (asked : PropSet) (old new : Machine) (name : List ℕ) (o : State) (now : Configuration) → old.object name ≡ Some o → EnsuredInPart book sub asked (configuration o old.clients) now → Becomes name now old new → AllInLine provenances old → AllStandFor provenances new
+  part_stands : (sub : Option ℕ) (asked : PropSet) (old new : Machine) (name : List ℕ) (o : State) (now : Configuration) → old.object name ≡ Some o → EnsuredInPart unsaid book sub asked (configuration o old.clients) now → Becomes name now old new → AllInLine provenances old → AllStandFor provenances new
   part_stands sub asked old new name o now at part becomes all = record {
     each = λ q. elim (decide (bytes_eq q name)) [
       | inl e ↦ subst (λ z. IfSome (new.object z) (λ o. StandsFor (lineage_of (provenances z) o) o)) (sym (same_bytes q name e))
@@ -42,13 +43,13 @@ module _ (book : List Rule) (provenances : Provenances) where
     ];
   }
 
-  parts_stand : (ws : List Wanted) (old new : Machine) → EnsuresInPart book ws old new → AllInLine provenances old → AllStandFor provenances new
+  parts_stand : (ws : List Wanted) (old new : Machine) → EnsuresInPart unsaid book ws old new → AllInLine provenances old → AllStandFor provenances new
   parts_stand [] old new s all = stays_stand old new s.objects all
   parts_stand (w ∷ ws) old new (inl s) all = stays_stand old new s.objects all
   parts_stand (w ∷ ws) old new (inr (inl one)) all = part_stands None (only_property w.property) old new w.name one.object one.now one.named one.ensured one.becomes all
   parts_stand (w ∷ ws) old new (inr (inr (m, rounds, one, others))) all = parts_stand ws m new others (one_keeps build_laws book provenances w ending.Found rounds old m one all)
 
-  pub step_in_part_stands : (old new : Machine) (command : Spoken) → StepInPart book old command new → AllInLine provenances old → AllStandFor provenances new
+  pub step_in_part_stands : (old new : Machine) (command : Spoken) → StepInPart unsaid book old command new → AllInLine provenances old → AllStandFor provenances new
   step_in_part_stands old new (give_value ref text) (inl s) all = stays_stand old new s.objects all
   step_in_part_stands old new (give_value ref text) (inr g) all = part_stands g.found.sub (only_property g.property) old new ref.name g.found.object g.now (named_object old ref g.found g.named) g.ensured g.becomes all
   step_in_part_stands old new (ensure_values ref words) (inl s) all = stays_stand old new s.objects all

@@ -1,4 +1,5 @@
 -- A run keeps each object in line with what it came of.
+use Rattle.pm_client.specs.Meanings.{unsaid}
 use Rattle.pm_command.specs.Commands.{Spoken, blank}
 use Rattle.pm_command.specs.Lines.{Line}
 use Rattle.pm_laws_lineage.proofs.Laws.{build_laws}
@@ -25,7 +26,7 @@ record KnownAfter (book : List Rule) (records : Records) (old new : Machine) (co
   read : HasReadTo book old command reply new bytes
   known : Known book (records_to book bytes command reply new records) new
 
-line_to : (book : List Rule) (records : Records) (old new : Machine) (why : Refusal) (command : Option Spoken) (reply : Option ReplySeen) → AnswersTo book old why command reply new → Known book records old → KnownAfter book records old new command reply
+line_to : (book : List Rule) (records : Records) (old new : Machine) (why : Refusal) (command : Option Spoken) (reply : Option ReplySeen) → AnswersTo unsaid book old why command reply new → Known book records old → KnownAfter book records old new command reply
 line_to book records old new why (Some command) (Some reply) step k =
     let (bytes, read) = read_bytes book old new command reply step in
     record {
@@ -41,7 +42,7 @@ line_to book records old new why (Some command) None h k = absurd h
 line_to book records old new why None (Some reply) (reply_is, is) k = record { bytes = []; read = tt; known = record { line = subst (AllInLine records.provenances) (sym is) k.line; saved = k.saved } }
 line_to book records old new why None None h k = absurd h
 
-along : (book : List Rule) (old new : Machine) (lines : List Line) (replies : List (Option ReplySeen)) (records : Records) → Known book records old → Run book old lines replies new → RunInLine book old records lines replies new
+along : (book : List Rule) (old new : Machine) (lines : List Line) (replies : List (Option ReplySeen)) (records : Records) → Known book records old → Run unsaid book old lines replies new → RunInLine book old records lines replies new
 along book old new [] [] records k run = (run, λ command part h. step_in_part_stands book records.provenances old part command h k.line)
 along book old new (line ∷ lines) (reply ∷ replies) records k run =
     let after = line_to book records old run.0 (refusal_of line) (command_at line) reply run.1 k in

@@ -1,5 +1,6 @@
 -- Nothing goes without saying of an object that is ensured something, where the kinds of the rules keep the halves of
 -- descriptions together.
+use Rattle.pm_client.specs.Meanings.{unsaid}
 use Rattle.pm_laws_lineage.proofs.Names.{AllFalse, none_of_five}
 use Rattle.pm_laws_lineage.proofs.Saved.{both, decide, held_of, is_not, not_both, of_held}
 use Rattle.pm_laws_lineage.proofs.Twice.{none, nothing_more}
@@ -254,7 +255,7 @@ in_turns chain (id ∷ left) o s = s
 same_held : (o q : State) → q.held ≡ o.held → IsSaid o → IsSaid q
 same_held o q e s = record { nothing = ap names_to_settle e ∙ s.nothing; placed = λ h i own. s.placed h (subst (λ z. Contains z h) e i) own }
 
-event_says : (book : List Rule) (keeps : KeepsHalves book) (sub : Option ℕ) (asked : PropSet) (phase : Phase) (c : Configuration) (e : Event) → MayOccur book sub asked phase c e → SaidIn phase c.object → SaidIn (phase_after phase e) (after_event sub e c).object
+event_says : (book : List Rule) (keeps : KeepsHalves book) (sub : Option ℕ) (asked : PropSet) (phase : Phase) (c : Configuration) (e : Event) → MayOccur unsaid book sub asked phase c e → SaidIn phase c.object → SaidIn (phase_after phase e) (after_event sub e c).object
 event_says book keeps sub asked unsettled c settled may s = settling_says c.object s
 event_says book keeps sub asked at_rest c (begun chain) may s = in_turns chain chain c.object s
 event_says book keeps sub asked (turn chain id left) c (started kind) may s = s
@@ -265,7 +266,7 @@ event_says book keeps sub asked (running chain id left) c (excluded e) may s = s
 event_says book keeps sub asked (over chain e) c (written r) may s = same_held c.object _ refl s
 event_says book keeps sub asked phase c e may s = absurd may
 
-events_say : (book : List Rule) (keeps : KeepsHalves book) (sub : Option ℕ) (asked : PropSet) (phase : Phase) (c : Configuration) (events : List Event) → IsTrace book sub asked phase c events → SaidIn phase c.object
+events_say : (book : List Rule) (keeps : KeepsHalves book) (sub : Option ℕ) (asked : PropSet) (phase : Phase) (c : Configuration) (events : List Event) → IsTrace unsaid book sub asked phase c events → SaidIn phase c.object
     → SaidIn (phase_after_all phase events) (after_events sub events c).object
 events_say book keeps sub asked phase c [] trace s = s
 events_say book keeps sub asked phase c (e ∷ events) (may, trace) s = events_say book keeps sub asked (phase_after phase e) (after_event sub e c) events trace (event_says book keeps sub asked phase c e may s)

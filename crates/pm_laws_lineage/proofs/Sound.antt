@@ -1,5 +1,6 @@
 -- What an object was made of stays so while properties are ensured: the given and stored values of an object that was
 -- made are right for each thing that its lineage denotes.
+use Rattle.pm_client.specs.Meanings.{unsaid}
 use Rattle.pm_geom.specs.Things.{Orders}
 use Rattle.pm_laws_lineage.proofs.Facts.{based_append, computed_based, objectives_append, right_of_first, settled_based, settled_objectives}
 use Rattle.pm_laws_lineage.proofs.Twice.{sealed_settles_nothing, settling_knows, settling_twice}
@@ -95,7 +96,7 @@ in_turns : (provenance : Provenance) (chain left : List RuleId) (o : State) → 
 in_turns provenance chain [] o s = s
 in_turns provenance chain (id ∷ left) o s = s
 
-event_keeps : (provenance : Provenance) (book : List Rule) (sub : Option ℕ) (asked : PropSet) (phase : Phase) (c : Configuration) (e : Event) → MayOccur book sub asked phase c e
+event_keeps : (provenance : Provenance) (book : List Rule) (sub : Option ℕ) (asked : PropSet) (phase : Phase) (c : Configuration) (e : Event) → MayOccur unsaid book sub asked phase c e
     → InPhase provenance phase c.object → InPhase provenance (phase_after phase e) (after_event sub e c).object
 event_keeps provenance book sub asked unsettled c settled may (s, knows) = (sound_settled provenance c.object s, settling_knows c.object knows)
 event_keeps provenance book sub asked at_rest c (begun chain) may (s, knows) = in_turns provenance chain chain c.object (sound_held provenance c.object s, knows)
@@ -110,7 +111,7 @@ event_keeps provenance book sub asked (over chain e) c (written r) may (s, knows
 )
 event_keeps provenance book sub asked phase c e may s = absurd may
 
-events_keep : (provenance : Provenance) (book : List Rule) (sub : Option ℕ) (asked : PropSet) (phase : Phase) (c : Configuration) (events : List Event) → IsTrace book sub asked phase c events
+events_keep : (provenance : Provenance) (book : List Rule) (sub : Option ℕ) (asked : PropSet) (phase : Phase) (c : Configuration) (events : List Event) → IsTrace unsaid book sub asked phase c events
     → InPhase provenance phase c.object → InPhase provenance (phase_after_all phase events) (after_events sub events c).object
 events_keep provenance book sub asked phase c [] trace s = s
 events_keep provenance book sub asked phase c (e ∷ events) (may, trace) s = events_keep provenance book sub asked (phase_after phase e) (after_event sub e c) events trace (event_keeps provenance book sub asked phase c e may s)
@@ -121,12 +122,12 @@ held_in_phase provenance unsettled o s = sound_held provenance o s.0
 held_in_phase provenance at_rest o s = sound_held provenance o s.0
 held_in_phase provenance phase o s = s.0
 
-pub ensured_in_part_keeps : (provenance : Provenance) (book : List Rule) (sub : Option ℕ) (asked : PropSet) (old new : Configuration) → EnsuredInPart book sub asked old new → Sound provenance old.object → KnowsDimension old.object → SoundHeld provenance new.object
+pub ensured_in_part_keeps : (provenance : Provenance) (book : List Rule) (sub : Option ℕ) (asked : PropSet) (old new : Configuration) → EnsuredInPart unsaid book sub asked old new → Sound provenance old.object → KnowsDimension old.object → SoundHeld provenance new.object
 ensured_in_part_keeps provenance book sub asked old new (phase, part) s knows =
     subst (λ (c : Configuration). SoundHeld provenance c.object) (sym part.becomes)
     (held_in_phase provenance (phase_after_all unsettled part.events) (after_events sub part.events old).object (events_keep provenance book sub asked unsettled old part.events part.trace (s, knows)))
 
-pub ensured_keeps : (provenance : Provenance) (book : List Rule) (sub : Option ℕ) (asked : PropSet) (ending : Ending) (old new : Configuration) → Ensured book sub asked ending old new
+pub ensured_keeps : (provenance : Provenance) (book : List Rule) (sub : Option ℕ) (asked : PropSet) (ending : Ending) (old new : Configuration) → Ensured unsaid book sub asked ending old new
     → Sound provenance old.object → KnowsDimension old.object → Sound provenance new.object × (is_held ConeAmbientDim new.object.held ≡ true)
 ensured_keeps provenance book sub asked ending old new e s knows =
     subst (λ (c : Configuration). InPhase provenance at_rest c.object) (sym e.reaches.becomes)

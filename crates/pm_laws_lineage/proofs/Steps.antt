@@ -1,4 +1,5 @@
 -- Every step keeps each object in line with what it came of.
+use Rattle.pm_client.specs.Meanings.{unsaid}
 use Rattle.pm_laws_lineage.proofs.Building.{built_line, ends_keep, all_keep, shape_line}
 use Rattle.pm_laws_lineage.proofs.Builds.{BuildLaws}
 use Rattle.pm_laws_lineage.proofs.Lines.{AllInLine, InLine, all_stand, in_line_disabled, in_line_empty, in_line_ensured, in_line_loaded, in_line_stands, in_line_given, in_line_objective, in_line_program, in_line_settled, line_at, new_line, one_line, same_line}
@@ -166,31 +167,31 @@ module _ (laws : BuildLaws) (book : List Rule) (provenances : Provenances) where
       taken_line old new ref.name ref.sub text x p v (named_object old ref x at) at named (taken_free x.object x.sub p _ v taken) becomes.object becomes.others all
 
   -- ---- properties that are ensured
-  given_line : (provenance : Provenance) (old new : Configuration) (sub : Option ℕ) (name : List ℕ) (p : PropId) (reply : ReplySeen) → Gives book old sub name p reply new → InLine provenance old.object → InLine provenance new.object
+  given_line : (provenance : Provenance) (old new : Configuration) (sub : Option ℕ) (name : List ℕ) (p : PropId) (reply : ReplySeen) → Gives unsaid book old sub name p reply new → InLine provenance old.object → InLine provenance new.object
   given_line provenance old new sub name p _ (steps.no_chain e told) s = in_line_ensured book provenance sub (only_property p) ending.NoChain old new e s
   given_line provenance old new sub name p _ (steps.is_crowded e told) s = in_line_ensured book provenance sub (only_property p) ending.Crowded old new e s
   given_line provenance old new sub name p _ (steps.is_shown e same typed is held rounds) s = in_line_ensured book provenance sub (only_property p) ending.Found old new e s
 
-  gave_line : (old new : Machine) (ref : RefSeen) (text : List ℕ) (reply : ReplySeen) → Gave book old ref text reply new → AllInLine provenances old → AllInLine provenances new
+  gave_line : (old new : Machine) (ref : RefSeen) (text : List ℕ) (reply : ReplySeen) → Gave unsaid book old ref text reply new → AllInLine provenances old → AllInLine provenances new
   gave_line old new ref text reply (x, at, p, named, c, gives, becomes) all =
       one_line provenances ref.name c.object old new becomes.object becomes.others
       (given_line (provenances ref.name) (configuration x.object old.clients) c x.sub (ref_text ref) p reply gives (line_at provenances old ref.name x.object (named_object old ref x at) all)) all
 
-  give_line : (old new : Machine) (ref : RefSeen) (text : List ℕ) (reply : ReplySeen) → GiveStep book old ref text reply new → AllInLine provenances old → AllInLine provenances new
+  give_line : (old new : Machine) (ref : RefSeen) (text : List ℕ) (reply : ReplySeen) → GiveStep unsaid book old ref text reply new → AllInLine provenances old → AllInLine provenances new
   give_line old new ref text _ (steps.is_refused r s) all = stays old new s all
   give_line old new ref text reply (steps.is_asked h) all = gave_line old new ref text reply h all
 
-  ensures_line : (provenance : Provenance) (old new : Configuration) (sub : Option ℕ) (asked : PropSet) (reply : ReplySeen) → Ensures book old sub asked reply new → InLine provenance old.object → InLine provenance new.object
+  ensures_line : (provenance : Provenance) (old new : Configuration) (sub : Option ℕ) (asked : PropSet) (reply : ReplySeen) → Ensures unsaid book old sub asked reply new → InLine provenance old.object → InLine provenance new.object
   ensures_line provenance old new sub asked _ (steps.no_chain e told) s = in_line_ensured book provenance sub asked ending.NoChain old new e s
   ensures_line provenance old new sub asked _ (steps.is_crowded e told) s = in_line_ensured book provenance sub asked ending.Crowded old new e s
   ensures_line provenance old new sub asked _ (steps.is_found e told) s = in_line_ensured book provenance sub asked ending.Found old new e s
 
-  ensured_all_line : (old new : Machine) (ref : RefSeen) (words : List (List ℕ)) (reply : ReplySeen) → EnsuredAll book old ref words reply new → AllInLine provenances old → AllInLine provenances new
+  ensured_all_line : (old new : Machine) (ref : RefSeen) (words : List (List ℕ)) (reply : ReplySeen) → EnsuredAll unsaid book old ref words reply new → AllInLine provenances old → AllInLine provenances new
   ensured_all_line old new ref words reply (x, at, asked, named, c, ensures, becomes) all =
       one_line provenances ref.name c.object old new becomes.object becomes.others
       (ensures_line (provenances ref.name) (configuration x.object old.clients) c x.sub asked reply ensures (line_at provenances old ref.name x.object (named_object old ref x at) all)) all
 
-  ensure_line : (old new : Machine) (ref : RefSeen) (words : List (List ℕ)) (reply : ReplySeen) → EnsureStep book old ref words reply new → AllInLine provenances old → AllInLine provenances new
+  ensure_line : (old new : Machine) (ref : RefSeen) (words : List (List ℕ)) (reply : ReplySeen) → EnsureStep unsaid book old ref words reply new → AllInLine provenances old → AllInLine provenances new
   ensure_line old new ref words _ (steps.is_refused r s) all = stays old new s all
   ensure_line old new ref words reply (steps.is_asked h) all = ensured_all_line old new ref words reply h all
 
@@ -289,7 +290,7 @@ module _ (laws : BuildLaws) (book : List Rule) (provenances : Provenances) where
   make_line old new to s _ (building.is_refused r t) all = stays old new t all
   make_line old new to s _ (building.is_made h k told g) all = shape_line laws book provenances to s old new k g all
 
-  build_line : (b : Builder) (old new : Machine) (names : List (List ℕ)) (to : List ℕ) (reply : ReplySeen) → BuildStep book b old names to reply new → AllInLine provenances old → AllInLine (provenances_after (build_object b names to) reply new provenances) new
+  build_line : (b : Builder) (old new : Machine) (names : List (List ℕ)) (to : List ℕ) (reply : ReplySeen) → BuildStep unsaid book b old names to reply new → AllInLine provenances old → AllInLine (provenances_after (build_object b names to) reply new provenances) new
   build_line b old new names to _ (building.is_refused r s) all = stays old new s all
   build_line b old new names to _ (building.no_chain d) all = ends_keep laws book provenances (wanted_all (row_of b).reads names) ending.NoChain d.rounds old new d.ends all
   build_line b old new names to _ (building.is_crowded d) all = ends_keep laws book provenances (wanted_all (row_of b).reads names) ending.Crowded d.rounds old new d.ends all
@@ -298,7 +299,7 @@ module _ (laws : BuildLaws) (book : List Rule) (provenances : Provenances) where
   build_line b old new names to _ (building.is_made {mid = mid} rounds os f h makes g told) all = built_line laws book provenances b old mid new names to rounds os f h makes g all
 
   -- ---- each command
-  pub step_line : (bytes : List ℕ) (saved : List (List ℕ × Lineage)) → AllSaved book saved → (old new : Machine) (command : Spoken) (reply : ReplySeen) → Step book old command reply new → HasRead book old command reply new bytes → AllInLine provenances old
+  pub step_line : (bytes : List ℕ) (saved : List (List ℕ × Lineage)) → AllSaved book saved → (old new : Machine) (command : Spoken) (reply : ReplySeen) → Step unsaid book old command reply new → HasRead book old command reply new bytes → AllInLine provenances old
       → AllInLine (records_after book bytes command reply new (record { provenances = provenances; saved = saved })).provenances new
   step_line bytes saved all_saved old new blank reply h read all = absurd h
   step_line bytes saved all_saved old new (new_object ref text) reply h read all = new_of_line old new ref ref.name ref.sub text reply h all refl
@@ -322,7 +323,7 @@ module _ (laws : BuildLaws) (book : List Rule) (provenances : Provenances) where
   step_line bytes saved all_saved old new (build_object builder names to) reply h read all = build_line builder old new names to reply h all
 
   -- what is known of files
-  pub step_saved : (bytes : List ℕ) (saved : List (List ℕ × Lineage)) → AllSaved book saved → (old new : Machine) (command : Spoken) (reply : ReplySeen) → Step book old command reply new → AllInLine provenances old
+  pub step_saved : (bytes : List ℕ) (saved : List (List ℕ × Lineage)) → AllSaved book saved → (old new : Machine) (command : Spoken) (reply : ReplySeen) → Step unsaid book old command reply new → AllInLine provenances old
       → AllSaved book (records_after book bytes command reply new (record { provenances = provenances; saved = saved })).saved
   step_saved bytes saved all_saved old new (load_object name file) reply h all = load_saved bytes saved all_saved old new name file reply h
   step_saved bytes saved all_saved old new (save_object name file) reply h all = save_saved bytes saved all_saved old new name file reply h all
@@ -334,7 +335,7 @@ load_read book old new name file _ (steps.no_new_name r s) = ([], tt)
 load_read book old new name file _ (steps.is_refused free r l) = ([], tt)
 load_read book old new name file _ (steps.is_loaded bytes f free has reads told g) = (bytes, (has, f, reads, g.object))
 
-pub read_bytes : (book : List Rule) (old new : Machine) (command : Spoken) (reply : ReplySeen) → Step book old command reply new → (bytes : List ℕ) × HasRead book old command reply new bytes
+pub read_bytes : (book : List Rule) (old new : Machine) (command : Spoken) (reply : ReplySeen) → Step unsaid book old command reply new → (bytes : List ℕ) × HasRead book old command reply new bytes
 read_bytes book old new (load_object name file) reply h = load_read book old new name file reply h
 read_bytes book old new command reply h = ([], tt)
 

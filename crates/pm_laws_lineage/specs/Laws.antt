@@ -1,4 +1,5 @@
 -- The law of lineage: along every run each object stands for what it came of.
+use Rattle.pm_client.specs.Meanings.{unsaid}
 use Rattle.std.specs.Prelude.{ℕ, ◌≡◌, List, [], ◌∷◌, None, Some}
 use Rattle.pm_command.specs.Commands.{Spoken, load_object}
 use Rattle.pm_files.specs.Files.{SavedFile}
@@ -27,7 +28,7 @@ HasRead book old command reply new bytes = Unit {0}
 -- commands with their replies lead from one machine to another, and what is known of its objects goes along
 abbrev pub Leads : List Rule → Machine → Records → List (Spoken × ReplySeen) → Machine → Records → Type 0
 Leads book old records [] new later = (new ≡ old) × (later ≡ records)
-Leads book old records (x ∷ run) new later = (mid : Machine) × (bytes : List ℕ) × Step book old x.0 x.1 mid
+Leads book old records (x ∷ run) new later = (mid : Machine) × (bytes : List ℕ) × Step unsaid book old x.0 x.1 mid
     × HasRead book old x.0 x.1 mid bytes
     × Leads book mid (records_after book bytes x.0 x.1 mid records) run new later
 
@@ -47,7 +48,7 @@ RunsKeepLineage = (book : List Rule) (start end : Machine) (provenances : Proven
 abbrev pub StepsInPartKeepLineage : Type 0
 StepsInPartKeepLineage = (book : List Rule) (start old new : Machine) (provenances : Provenances) (later : Records)
     (run : List (Spoken × ReplySeen)) (command : Spoken) → ((q : List ℕ) → start.object q ≡ None)
-    → Leads book start (new_records provenances) run old later → StepInPart book old command new
+    → Leads book start (new_records provenances) run old later → StepInPart unsaid book old command new
     → AllStandFor later.provenances new
 
 -- a value that such an object holds is right, in some orders, for each thing that its lineage denotes

@@ -1,4 +1,5 @@
 -- What the objects of a run stand for, line by line.
+use Rattle.pm_client.specs.Meanings.{unsaid}
 use Rattle.std.specs.Prelude.{ℕ, ◌≡◌, List, [], ◌∷◌, None, Option, Some}
 use Rattle.pm_command.specs.Commands.{Spoken}
 use Rattle.pm_command.specs.Lines.{Line}
@@ -24,7 +25,7 @@ HasReadTo book old command reply new bytes = Unit {0}
 -- where memory runs out in the command that comes next, whatever part of it happened, each object stands for what it
 -- stood for
 abbrev pub NextStands : List Rule → Machine → Records → Type 0
-NextStands book old records = (command : Spoken) (new : Machine) → StepInPart book old command new
+NextStands book old records = (command : Spoken) (new : Machine) → StepInPart unsaid book old command new
     → AllStandFor records.provenances new
 
 -- it answers so to the lines, one after another, and after each of them the values of each object are right, in some
@@ -32,7 +33,7 @@ NextStands book old records = (command : Spoken) (new : Machine) → StepInPart 
 abbrev pub RunInLine : List Rule → Machine → Records → List Line → List (Option ReplySeen) → Machine → Type 0
 RunInLine book old records [] [] new = (new ≡ old) × NextStands book old records
 RunInLine book old records (line ∷ lines) (reply ∷ replies) new = (mid : Machine) × (bytes : List ℕ)
-    × Answers book old line reply mid × HasReadTo book old (command_at line) reply mid bytes
+    × Answers unsaid book old line reply mid × HasReadTo book old (command_at line) reply mid bytes
     × AllStandFor (records_to book bytes (command_at line) reply mid records).provenances mid
     × RunInLine book mid (records_to book bytes (command_at line) reply mid records) lines replies new
 RunInLine book old records [] (reply ∷ replies) new = ⊥
@@ -42,5 +43,5 @@ RunInLine book old records (line ∷ lines) [] new = ⊥
 abbrev pub RunKeepsLineage : Type 0
 RunKeepsLineage = (book : List Rule) (start end : Machine) (lines : List Line)
     (replies : List (Option ReplySeen)) (provenances : Provenances)
-    → ((q : List ℕ) → start.object q ≡ None) → Run book start lines replies end
+    → ((q : List ℕ) → start.object q ≡ None) → Run unsaid book start lines replies end
     → RunInLine book start (new_records provenances) lines replies end

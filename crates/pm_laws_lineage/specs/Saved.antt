@@ -1,4 +1,5 @@
 -- An object that is saved and loaded again.
+use Rattle.pm_client.specs.Meanings.{unsaid}
 use Rattle.std.specs.Prelude.{ℕ, ◌≡◌, ◌&&◌, ◌||◌, Bool, IsTrue, false, true, ◌⊎◌, not, List, [], None, Option, Some}
 use Rattle.std.specs.List.{All, Contains}
 use Rattle.pm_command.specs.Commands.{ShapeSeen, Spoken}
@@ -99,7 +100,7 @@ pub record StandardBooksKeepHalves : Type 0 where
 -- where they may stand.
 abbrev pub EnsuredIsSaid : Type 0
 EnsuredIsSaid = (book : List Rule) → KeepsHalves book → (sub : Option ℕ) (asked : PropSet) (ending : Ending)
-    (old new : Configuration) → Ensured book sub asked ending old new → IsSaidOnce old.object
+    (old new : Configuration) → Ensured unsaid book sub asked ending old new → IsSaidOnce old.object
     → IsSaid new.object × IsSaidOnce new.object
 
 -- Along every run that begins without objects each object is savable for which no round was started; and by such a book

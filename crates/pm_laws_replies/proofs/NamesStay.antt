@@ -1,4 +1,5 @@
 -- What a step does to the names of programs: none with an LF comes.
+use Rattle.pm_client.specs.Meanings.{unsaid}
 use Rattle.std.proofs.Common.{ap, refl, subst, sym, true≢false, ℕ, List, [], ◌∷◌, ◌++◌, true, ◌≡◌, ◌≢◌, ◌∙◌, ◌&&◌, Option, Some, None, inl, inr, ◌⊎◌}
 use Rattle.std.specs.List.{list_all}
 use Rattle.std.specs.Option.{option_and_then, option_map}
@@ -77,7 +78,7 @@ events_programs : (sub : Option ℕ) (es : List Event) (c : Configuration) → (
 events_programs sub [] c = refl
 events_programs sub (e ∷ es) c = events_programs sub es (after_event sub e c) ∙ event_programs sub e c
 
-pub ensured_lines : (book : List Rule) (sub : Option ℕ) (asked : PropSet) (ending : Ending) (old new : Configuration) → Ensured book sub asked ending old new → HasLines old.object → HasLines new.object
+pub ensured_lines : (book : List Rule) (sub : Option ℕ) (asked : PropSet) (ending : Ending) (old new : Configuration) → Ensured unsaid book sub asked ending old new → HasLines old.object → HasLines new.object
 ensured_lines book sub asked ending old new e h =
     let same : new.object.programs ≡ old.object.programs = ap (λ (c : Configuration). c.object.programs) e.reaches.becomes ∙ events_programs sub e.reaches.events old in
     ap (list_all is_one_line) same ∙ h
@@ -85,14 +86,14 @@ ensured_lines book sub asked ending old new e h =
 pub become_lines : (name : List ℕ) (c : Configuration) (old new : Machine) → Becomes name c old new → HasLines c.object → ProgramNamesAreOneLine old → ProgramNamesAreOneLine new
 become_lines name c old new b p h = put_lines name (Some c.object) old new b.object b.others p h
 
-pub one_lines : (book : List Rule) (w : Wanted) (e : Ending) (rounds : List RoundSeen) (old new : Machine) → EnsuresOne book w e rounds old new → ProgramNamesAreOneLine old → ProgramNamesAreOneLine new
+pub one_lines : (book : List Rule) (w : Wanted) (e : Ending) (rounds : List RoundSeen) (old new : Machine) → EnsuresOne unsaid book w e rounds old new → ProgramNamesAreOneLine old → ProgramNamesAreOneLine new
 one_lines book w e rounds old new x h = become_lines w.name x.now old new x.becomes (ensured_lines book None _ e (configuration x.object old.clients) x.now x.ensured (object_lines old h w.name x.object x.named)) h
 
-pub all_lines : (book : List Rule) (ws : List Wanted) (rounds : List RoundSeen) (old new : Machine) → EnsuresAll book ws rounds old new → ProgramNamesAreOneLine old → ProgramNamesAreOneLine new
+pub all_lines : (book : List Rule) (ws : List Wanted) (rounds : List RoundSeen) (old new : Machine) → EnsuresAll unsaid book ws rounds old new → ProgramNamesAreOneLine old → ProgramNamesAreOneLine new
 all_lines book [] rounds old new x h = same_objects old new x.1.objects h
 all_lines book (w ∷ ws) rounds old new (mid, first, others, one, rest, is) h = all_lines book ws others mid new rest (one_lines book w _ first old mid one h)
 
-pub end_lines : (book : List Rule) (ws : List Wanted) (e : Ending) (rounds : List RoundSeen) (old new : Machine) → EndsAt book ws e rounds old new → ProgramNamesAreOneLine old → ProgramNamesAreOneLine new
+pub end_lines : (book : List Rule) (ws : List Wanted) (e : Ending) (rounds : List RoundSeen) (old new : Machine) → EndsAt unsaid book ws e rounds old new → ProgramNamesAreOneLine old → ProgramNamesAreOneLine new
 end_lines book [] e rounds old new x h = absurd x
 end_lines book (w ∷ ws) e rounds old new (inl x) h = one_lines book w e rounds old new x.1 h
 end_lines book (w ∷ ws) e rounds old new (inr (mid, first, others, one, rest, is)) h = end_lines book ws e others mid new rest (one_lines book w _ first old mid one h)

@@ -1,4 +1,5 @@
 -- A run answers lines as the law of answers has it.
+use Rattle.pm_client.specs.Meanings.{unsaid}
 use Rattle.std.proofs.Common.{refl, subst, sym, List, [], ◌∷◌, Bool, true, false, ◌≡◌, Option, Some, None, if◌then◌else◌, inl, inr, map}
 use Rattle.std.specs.Prelude.{IfSome}
 use Rattle.std.specs.List.{list_all}
@@ -32,14 +33,14 @@ spoken_at line c e = by (is_too_long line) e
     by true e = cc
     by false e = lines_are_spoken (text_of line) c e
 
-line_answer : (book : List Rule) (old new : Machine) (line : Line) (reply : Option ReplySeen) (c : Option Spoken) → command_at line ≡ c → AnswersTo book old (refusal_of line) c reply new → AnswersLine book old c reply new
+line_answer : (book : List Rule) (old new : Machine) (line : Line) (reply : Option ReplySeen) (c : Option Spoken) → command_at line ≡ c → AnswersTo unsaid book old (refusal_of line) c reply new → AnswersLine book old c reply new
 line_answer book old new line None None e a = absurd a
 line_answer book old new line (Some r) None e a = (refusal_of line, line_refusal line, a.0, a.1)
 line_answer book old new line (Some r) (Some c) e a = (spoken_at line c e, a)
 line_answer book old new line None (Some blank) e a = a
 line_answer book old new line None (Some c) e a = absurd a
 
-run_lines : (book : List Rule) (old new : Machine) (lines : List Line) (replies : List (Option ReplySeen)) → Run book old lines replies new → AnswersLines book old (map command_at lines) replies new
+run_lines : (book : List Rule) (old new : Machine) (lines : List Line) (replies : List (Option ReplySeen)) → Run unsaid book old lines replies new → AnswersLines book old (map command_at lines) replies new
 run_lines book old new [] [] r = r
 run_lines book old new [] (s ∷ ss) r = absurd r
 run_lines book old new (l ∷ ls) [] r = absurd r

@@ -1,4 +1,5 @@
 -- Each step gives a reply that its command may have, and no name with an LF.
+use Rattle.pm_client.specs.Meanings.{unsaid}
 use Rattle.std.proofs.Common.{refl, subst, sym, ℕ, List, [], ◌∷◌, Bool, true, false, ◌≡◌, ◌+◌, Option, Some, None, map, if◌then◌else◌}
 use Rattle.std.specs.List.{enumerate_from, list_all}
 use Rattle.std.proofs.lemmas.Bool.{and_from, and_parts}
@@ -64,7 +65,7 @@ module _ (book : List Rule) (labels : labels_are_one_line book ≡ true) where
   take_good old new ref text json reply h (steps.is_refused r s) = (fits.is_refused refl (line_take r), stays old new s h)
   take_good old new ref text json reply h (steps.now_held x p v e f g t b) = (fits.is_done refl t, become_lines ref.name _ old new b (object_lines old h ref.name x.object (named_object (shelf old) ref x e)) h)
 
-  gives_good : (old new : Configuration) (ref : RefSeen) (sub : Option ℕ) (text : List ℕ) (p : PropId) (reply : ReplySeen) → HasLines old.object → Gives book old sub (ref_text ref) p reply new
+  gives_good : (old new : Configuration) (ref : RefSeen) (sub : Option ℕ) (text : List ℕ) (p : PropId) (reply : ReplySeen) → HasLines old.object → Gives unsaid book old sub (ref_text ref) p reply new
       → IsReply book (give_value ref text) reply × HasLines new.object
   gives_good old new ref sub text p reply h (steps.no_chain e m) =
       let l = ensured_lines book sub (only p) _ old new e h in (beside_as (give_value ref text) _ false _ _ m refl refl refl (told_lines book new.object labels l), l)
@@ -74,7 +75,7 @@ module _ (book : List Rule) (labels : labels_are_one_line book ≡ true) where
       let l = ensured_lines book sub (only p) _ old new e h in
       (fits.is_shown n (subst (λ (z : Rounds). NamesAreOneLine z.names) (sym t) (told_lines book new.object labels l)), l)
 
-  give_good : (old new : Machine) (ref : RefSeen) (text : List ℕ) (reply : ReplySeen) → ProgramNamesAreOneLine old → GiveStep book old ref text reply new → Good book (give_value ref text) reply new
+  give_good : (old new : Machine) (ref : RefSeen) (text : List ℕ) (reply : ReplySeen) → ProgramNamesAreOneLine old → GiveStep unsaid book old ref text reply new → Good book (give_value ref text) reply new
   give_good old new ref text reply h (steps.is_refused r s) = (fits.is_refused refl (line_property r), stays old new s h)
   give_good old new ref text reply h (steps.is_asked (x, named, p, prop, c, gives, b)) =
       let g = gives_good (configuration x.object old.clients) c ref x.sub text p reply (object_lines old h ref.name x.object (named_object (shelf old) ref x named)) gives in
@@ -85,7 +86,7 @@ module _ (book : List Rule) (labels : labels_are_one_line book ≡ true) where
   lookup_good old new ref text reply h (steps.not_held x p e f v s) = (fits.is_not_held, stays old new s h)
   lookup_good old new ref text reply h (steps.is_shown x e f n o v t s) = (fits.is_looked_up n t, stays old new s h)
 
-  ensures_good : (old new : Configuration) (ref : RefSeen) (sub : Option ℕ) (words : List (List ℕ)) (asked : PropSet) (reply : ReplySeen) → HasLines old.object → Ensures book old sub asked reply new
+  ensures_good : (old new : Configuration) (ref : RefSeen) (sub : Option ℕ) (words : List (List ℕ)) (asked : PropSet) (reply : ReplySeen) → HasLines old.object → Ensures unsaid book old sub asked reply new
       → IsReply book (ensure_values ref words) reply × HasLines new.object
   ensures_good old new ref sub words asked reply h (steps.no_chain e m) =
       let l = ensured_lines book sub asked _ old new e h in (beside_as (ensure_values ref words) _ true _ _ m refl refl refl (told_lines book new.object labels l), l)
@@ -95,7 +96,7 @@ module _ (book : List Rule) (labels : labels_are_one_line book ≡ true) where
       let l = ensured_lines book sub asked _ old new e h in
       (fits.is_ensured (subst (λ (z : Rounds). NamesAreOneLine z.names) (sym t) (told_lines book new.object labels l)), l)
 
-  ensure_good : (old new : Machine) (ref : RefSeen) (words : List (List ℕ)) (reply : ReplySeen) → ProgramNamesAreOneLine old → EnsureStep book old ref words reply new → Good book (ensure_values ref words) reply new
+  ensure_good : (old new : Machine) (ref : RefSeen) (words : List (List ℕ)) (reply : ReplySeen) → ProgramNamesAreOneLine old → EnsureStep unsaid book old ref words reply new → Good book (ensure_values ref words) reply new
   ensure_good old new ref words reply h (steps.is_refused r s) = (fits.is_refused refl (line_properties r), stays old new s h)
   ensure_good old new ref words reply h (steps.is_asked (x, named, asked, all, c, ensures, b)) =
       let g = ensures_good (configuration x.object old.clients) c ref x.sub words asked reply (object_lines old h ref.name x.object (named_object (shelf old) ref x named)) ensures in
@@ -177,7 +178,7 @@ module _ (book : List Rule) (labels : labels_are_one_line book ≡ true) where
   make_good old new to shape reply h (building.is_refused r s) = (fits.is_refused refl (line_make r), stays old new s h)
   make_good old new to shape reply h (building.is_made n c t g) = (fits.is_done refl t, gains to _ old new g refl h)
 
-  build_good : (old new : Machine) (b : Builder) (names : List (List ℕ)) (to : List ℕ) (reply : ReplySeen) → ProgramNamesAreOneLine old → BuildStep book b old names to reply new → Good book (build_object b names to) reply new
+  build_good : (old new : Machine) (b : Builder) (names : List (List ℕ)) (to : List ℕ) (reply : ReplySeen) → ProgramNamesAreOneLine old → BuildStep unsaid book b old names to reply new → Good book (build_object b names to) reply new
   build_good old new b names to reply h (building.is_refused r s) = (fits.is_refused refl (line_build r), stays old new s h)
   build_good old new b names to reply h (building.no_chain d) =
       (beside_as (build_object b names to) _ false d.rounds _ d.told refl refl refl (book_lines book labels), end_lines book _ _ d.rounds old new d.ends h)
@@ -201,7 +202,7 @@ module _ (book : List Rule) (labels : labels_are_one_line book ≡ true) where
       by None k s = new_object_good old new ref ref.name text reply h s
       by (Some sub) k s = new_program_good old new ref ref.name sub text reply (plain_name sub k) h s
 
-  step_good : (old new : Machine) (c : Spoken) (reply : ReplySeen) → IsSpoken c → ProgramNamesAreOneLine old → Step book old c reply new → Good book c reply new
+  step_good : (old new : Machine) (c : Spoken) (reply : ReplySeen) → IsSpoken c → ProgramNamesAreOneLine old → Step unsaid book old c reply new → Good book c reply new
   step_good old new blank reply w h s = absurd s
   step_good old new (new_object ref text) reply w h s = new_good old new ref text reply (spoken_sub ref text w) h s
   step_good old new (take_value ref text json) reply w h s = take_good old new ref text json reply h s

@@ -1,4 +1,5 @@
 -- What a run showed is told by its script and the bytes that it wrote.
+use Rattle.pm_client.specs.Meanings.{unsaid}
 use Rattle.std.specs.Prelude.{◌≡◌, ◌⊎◌, Bool, List, Option, ℕ, map}
 use Rattle.pm_books.specs.Grammar.{IsBookText}
 use Rattle.pm_client.specs.Starts.{Clients}
@@ -24,7 +25,7 @@ RunsAreToldApart = (book : List Rule) (trace : Bool) (lines : List Line)
     (clients rivals : Clients) (files papers : Option Files) (old new start end : Machine)
     (replies others : List (Option ReplySeen)) → AreOfABook book
     → Starts clients files old → Starts rivals papers start
-    → Run book old lines replies new → Run book start lines others end
+    → Run unsaid book old lines replies new → Run unsaid book start lines others end
     → replies_text trace replies ≡ replies_text trace others
     → (map (text_if trace) replies ≡ map (text_if trace) others)
     × (map value_shown_if replies ≡ map value_shown_if others)

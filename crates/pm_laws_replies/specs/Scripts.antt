@@ -1,4 +1,5 @@
 -- The replies of a run are such as their commands may have, so that they can be told apart.
+use Rattle.pm_client.specs.Meanings.{unsaid}
 use Rattle.std.specs.Prelude.{ℕ, ◌≡◌, Bool, true, IfSome, List, [], ◌∷◌, Option, Some, None, map}
 use Rattle.std.specs.List.{list_all}
 use Rattle.pm_command.specs.Commands.{Spoken, blank, command_of}
@@ -29,7 +30,7 @@ IsSpoken command = (text : List ℕ) × Speaks text command
 -- From the machine old the reply to a line may be this one, and it goes on as new. The line speaks this command, or
 -- none (None), and then it is refused in one line and changes nothing.
 abbrev pub AnswersLine : List Rule → Machine → Option Spoken → Option ReplySeen → Machine → Type 0
-AnswersLine book old (Some command) (Some reply) new = IsSpoken command × Step book old command reply new
+AnswersLine book old (Some command) (Some reply) new = IsSpoken command × Step unsaid book old command reply new
 AnswersLine book old (Some blank) None new = new ≡ old
 AnswersLine book old (Some command) None new = ⊥
 AnswersLine book old None (Some reply) new = (why : Refusal) × (is_one_line (refusal_text why) ≡ true)

@@ -1,4 +1,5 @@
 -- A step that touches no file is the same beside any store.
+use Rattle.pm_client.specs.Meanings.{Meanings}
 use Rattle.pm_client.specs.Starts.{Clients}
 use Rattle.pm_machine.proofs.BesideBuilding.{build_beside, make_beside, parts_beside}
 use Rattle.pm_machine.proofs.BesideObjects.{becomes_beside, beside, gains_beside, loses_beside, stays_beside, unloads_beside}
@@ -35,13 +36,13 @@ take_beside : (k : Store) (old new : Machine) (ref : RefSeen) (text json : List 
 take_beside k old new ref text json _ (is_refused r s) = is_refused r (stays_beside k old new s)
 take_beside k old new ref text json _ (now_held x p v h i t told b) = now_held x p v h i t told (becomes_beside k _ _ old new b)
 
-give_beside : (k : Store) (old new : Machine) (book : List Rule) (ref : RefSeen) (text : List ℕ) (reply : ReplySeen) → GiveStep book old ref text reply new → GiveStep book (beside k old) ref text reply (beside k new)
-give_beside k old new book ref text _ (is_refused r s) = is_refused r (stays_beside k old new s)
-give_beside k old new book ref text reply (is_asked (x, h, p, i, c, g, b)) = is_asked (x, h, p, i, c, g, becomes_beside k _ _ old new b)
+give_beside : {M : Meanings} (k : Store) (old new : Machine) (book : List Rule) (ref : RefSeen) (text : List ℕ) (reply : ReplySeen) → GiveStep M book old ref text reply new → GiveStep M book (beside k old) ref text reply (beside k new)
+give_beside {M = M} k old new book ref text _ (is_refused r s) = is_refused r (stays_beside k old new s)
+give_beside {M = M} k old new book ref text reply (is_asked (x, h, p, i, c, g, b)) = is_asked (x, h, p, i, c, g, becomes_beside k _ _ old new b)
 
-ensure_beside : (k : Store) (old new : Machine) (book : List Rule) (ref : RefSeen) (words : List (List ℕ)) (reply : ReplySeen) → EnsureStep book old ref words reply new → EnsureStep book (beside k old) ref words reply (beside k new)
-ensure_beside k old new book ref words _ (is_refused r s) = is_refused r (stays_beside k old new s)
-ensure_beside k old new book ref words reply (is_asked (x, h, p, i, c, g, b)) = is_asked (x, h, p, i, c, g, becomes_beside k _ _ old new b)
+ensure_beside : {M : Meanings} (k : Store) (old new : Machine) (book : List Rule) (ref : RefSeen) (words : List (List ℕ)) (reply : ReplySeen) → EnsureStep M book old ref words reply new → EnsureStep M book (beside k old) ref words reply (beside k new)
+ensure_beside {M = M} k old new book ref words _ (is_refused r s) = is_refused r (stays_beside k old new s)
+ensure_beside {M = M} k old new book ref words reply (is_asked (x, h, p, i, c, g, b)) = is_asked (x, h, p, i, c, g, becomes_beside k _ _ old new b)
 
 explain_beside : (k : Store) (old new : Machine) (book : List Rule) (ref : RefSeen) (words : List (List ℕ)) (reply : ReplySeen) → ExplainStep book old ref words reply new → ExplainStep book (beside k old) ref words reply (beside k new)
 explain_beside k old new book ref words _ (is_refused r s) = is_refused r (stays_beside k old new s)
@@ -88,67 +89,67 @@ unload_beside : (k : Store) (old new : Machine) (name : List ℕ) (reply : Reply
 unload_beside k old new name _ (is_refused r s) = is_refused r (stays_beside k old new s)
 unload_beside k old new name _ (is_unloaded told h u) = is_unloaded told h (unloads_beside k _ old new u)
 
-step_beside : (k : Store) (book : List Rule) (old new : Machine) (command : Spoken) (reply : ReplySeen) → is_on_files command ≡ false → Step book old command reply new → Step book (beside k old) command reply (beside k new)
-step_beside k book old new blank reply e h = absurd h
-step_beside k book old new (new_object ref text) reply e h = new_beside k old new ref text reply h
-step_beside k book old new (take_value ref text json) reply e h = take_beside k old new ref text json reply h
-step_beside k book old new (give_value ref text) reply e h = give_beside k old new book ref text reply h
-step_beside k book old new (look_up ref text) reply e h = lookup_beside k old new ref text reply h
-step_beside k book old new (ensure_values ref words) reply e h = ensure_beside k old new book ref words reply h
-step_beside k book old new (explain_values ref words) reply e h = explain_beside k old new book ref words reply h
-step_beside k book old new (tell_history name) reply e h = history_beside k old new book name reply h
-step_beside k book old new (show_object name) reply e h = show_beside k old new name reply h
-step_beside k book old new (tell_evidence name label) reply e h = evidence_beside k old new book name label reply h
-step_beside k book old new show_rules reply e h = rules_beside k old new book reply h
-step_beside k book old new (disable_rule name label) reply e h = disable_beside k old new book name label reply h
-step_beside k book old new (unload_client name) reply e h = unload_beside k old new name reply h
-step_beside k book old new (copy_object name to) reply e h = copy_beside k old new name to reply h
-step_beside k book old new (drop_object name) reply e h = drop_beside k old new name reply h
-step_beside k book old new (tell_origin ref text) reply e h = origin_beside k old new ref text reply h
-step_beside k book old new (load_object name file) reply e h = absurd (true≢false e)
-step_beside k book old new (save_object name file) reply e h = absurd (true≢false e)
-step_beside k book old new (make_object to shape) reply e h = make_beside k old new to shape reply h
-step_beside k book old new (build_object builder names to) reply e h = build_beside k book builder old names to reply new h
+step_beside : (M : Meanings) (k : Store) (book : List Rule) (old new : Machine) (command : Spoken) (reply : ReplySeen) → is_on_files command ≡ false → Step M book old command reply new → Step M book (beside k old) command reply (beside k new)
+step_beside M k book old new blank reply e h = absurd h
+step_beside M k book old new (new_object ref text) reply e h = new_beside k old new ref text reply h
+step_beside M k book old new (take_value ref text json) reply e h = take_beside k old new ref text json reply h
+step_beside M k book old new (give_value ref text) reply e h = give_beside k old new book ref text reply h
+step_beside M k book old new (look_up ref text) reply e h = lookup_beside k old new ref text reply h
+step_beside M k book old new (ensure_values ref words) reply e h = ensure_beside k old new book ref words reply h
+step_beside M k book old new (explain_values ref words) reply e h = explain_beside k old new book ref words reply h
+step_beside M k book old new (tell_history name) reply e h = history_beside k old new book name reply h
+step_beside M k book old new (show_object name) reply e h = show_beside k old new name reply h
+step_beside M k book old new (tell_evidence name label) reply e h = evidence_beside k old new book name label reply h
+step_beside M k book old new show_rules reply e h = rules_beside k old new book reply h
+step_beside M k book old new (disable_rule name label) reply e h = disable_beside k old new book name label reply h
+step_beside M k book old new (unload_client name) reply e h = unload_beside k old new name reply h
+step_beside M k book old new (copy_object name to) reply e h = copy_beside k old new name to reply h
+step_beside M k book old new (drop_object name) reply e h = drop_beside k old new name reply h
+step_beside M k book old new (tell_origin ref text) reply e h = origin_beside k old new ref text reply h
+step_beside M k book old new (load_object name file) reply e h = absurd (true≢false e)
+step_beside M k book old new (save_object name file) reply e h = absurd (true≢false e)
+step_beside M k book old new (make_object to shape) reply e h = make_beside k old new to shape reply h
+step_beside M k book old new (build_object builder names to) reply e h = build_beside k M book builder old names to reply new h
 
 begun_beside : (k : Store) (b : Builder) (names : List (List ℕ)) (to : List ℕ) (old new : Machine) → MayHaveBegun b names to old new → MayHaveBegun b names to (beside k old) (beside k new)
 begun_beside k b names to old new (inl s) = inl (stays_beside k old new s)
 begun_beside k b names to old new (inr h) = inr h
 
-part_beside : (k : Store) (book : List Rule) (old new : Machine) (command : Spoken) → is_on_files command ≡ false → StepInPart book old command new → StepInPart book (beside k old) command (beside k new)
-part_beside k book old new (give_value ref text) e (inl s) = inl (stays_beside k old new s)
-part_beside k book old new (give_value ref text) e (inr g) = inr (record { found = g.found; named = g.named; property = g.property; is_property = g.is_property; now = g.now; ensured = g.ensured; becomes = becomes_beside k _ _ old new g.becomes })
-part_beside k book old new (ensure_values ref words) e (inl s) = inl (stays_beside k old new s)
-part_beside k book old new (ensure_values ref words) e (inr g) = inr (record { found = g.found; named = g.named; asked = g.asked; is_asked = g.is_asked; now = g.now; ensured = g.ensured; becomes = becomes_beside k _ _ old new g.becomes })
-part_beside k book old new (explain_values ref words) e (inl s) = inl (stays_beside k old new s)
-part_beside k book old new (explain_values ref words) e (inr g) = inr (record { found = g.found; named = g.named; asked = g.asked; is_asked = g.is_asked; becomes = becomes_beside k _ _ old new g.becomes })
-part_beside k book old new (load_object name file) e h = absurd (true≢false e)
-part_beside k book old new (save_object name file) e h = absurd (true≢false e)
-part_beside k book old new blank e s = stays_beside k old new s
-part_beside k book old new (new_object ref text) e s = stays_beside k old new s
-part_beside k book old new (take_value ref text json) e s = stays_beside k old new s
-part_beside k book old new (look_up ref text) e s = stays_beside k old new s
-part_beside k book old new (tell_history name) e s = stays_beside k old new s
-part_beside k book old new (show_object name) e s = stays_beside k old new s
-part_beside k book old new (tell_evidence name label) e s = stays_beside k old new s
-part_beside k book old new show_rules e s = stays_beside k old new s
-part_beside k book old new (disable_rule name label) e s = stays_beside k old new s
-part_beside k book old new (unload_client name) e s = stays_beside k old new s
-part_beside k book old new (copy_object name to) e s = stays_beside k old new s
-part_beside k book old new (drop_object name) e s = stays_beside k old new s
-part_beside k book old new (tell_origin ref text) e s = stays_beside k old new s
-part_beside k book old new (make_object to shape) e s = stays_beside k old new s
-part_beside k book old new (build_object builder names to) e h = (begun_beside k builder names to old new h.0, parts_beside k book (wanted_all (row_of builder).reads names) old new h.1)
+part_beside : (M : Meanings) (k : Store) (book : List Rule) (old new : Machine) (command : Spoken) → is_on_files command ≡ false → StepInPart M book old command new → StepInPart M book (beside k old) command (beside k new)
+part_beside M k book old new (give_value ref text) e (inl s) = inl (stays_beside k old new s)
+part_beside M k book old new (give_value ref text) e (inr g) = inr (record { found = g.found; named = g.named; property = g.property; is_property = g.is_property; now = g.now; ensured = g.ensured; becomes = becomes_beside k _ _ old new g.becomes })
+part_beside M k book old new (ensure_values ref words) e (inl s) = inl (stays_beside k old new s)
+part_beside M k book old new (ensure_values ref words) e (inr g) = inr (record { found = g.found; named = g.named; asked = g.asked; is_asked = g.is_asked; now = g.now; ensured = g.ensured; becomes = becomes_beside k _ _ old new g.becomes })
+part_beside M k book old new (explain_values ref words) e (inl s) = inl (stays_beside k old new s)
+part_beside M k book old new (explain_values ref words) e (inr g) = inr (record { found = g.found; named = g.named; asked = g.asked; is_asked = g.is_asked; becomes = becomes_beside k _ _ old new g.becomes })
+part_beside M k book old new (load_object name file) e h = absurd (true≢false e)
+part_beside M k book old new (save_object name file) e h = absurd (true≢false e)
+part_beside M k book old new blank e s = stays_beside k old new s
+part_beside M k book old new (new_object ref text) e s = stays_beside k old new s
+part_beside M k book old new (take_value ref text json) e s = stays_beside k old new s
+part_beside M k book old new (look_up ref text) e s = stays_beside k old new s
+part_beside M k book old new (tell_history name) e s = stays_beside k old new s
+part_beside M k book old new (show_object name) e s = stays_beside k old new s
+part_beside M k book old new (tell_evidence name label) e s = stays_beside k old new s
+part_beside M k book old new show_rules e s = stays_beside k old new s
+part_beside M k book old new (disable_rule name label) e s = stays_beside k old new s
+part_beside M k book old new (unload_client name) e s = stays_beside k old new s
+part_beside M k book old new (copy_object name to) e s = stays_beside k old new s
+part_beside M k book old new (drop_object name) e s = stays_beside k old new s
+part_beside M k book old new (tell_origin ref text) e s = stays_beside k old new s
+part_beside M k book old new (make_object to shape) e s = stays_beside k old new s
+part_beside M k book old new (build_object builder names to) e h = (begun_beside k builder names to old new h.0, parts_beside k M book (wanted_all (row_of builder).reads names) old new h.1)
 
 -- the same, of what a call answers
-pub answered_beside : {E F : Type 0} (view : F → ReplySeen) (k : Store) (book : List Rule) (old new : Machine) (command : Spoken) (r : Result F E) → is_on_files command ≡ false
-    → IfOk r (λ x. Step book old command (view x) new) → IfOk r (λ x. Step book (beside k old) command (view x) (beside k new))
-answered_beside view k book old new command (Ok x) e h = step_beside k book old new command (view x) e h
-answered_beside view k book old new command (Err x) e h = tt
+pub answered_beside : (M : Meanings) {E F : Type 0} (view : F → ReplySeen) (k : Store) (book : List Rule) (old new : Machine) (command : Spoken) (r : Result F E) → is_on_files command ≡ false
+    → IfOk r (λ x. Step M book old command (view x) new) → IfOk r (λ x. Step M book (beside k old) command (view x) (beside k new))
+answered_beside M view k book old new command (Ok x) e h = step_beside M k book old new command (view x) e h
+answered_beside M view k book old new command (Err x) e h = tt
 
-pub broken_beside : {E F : Type 0} (k : Store) (book : List Rule) (old new : Machine) (command : Spoken) (r : Result F E) → is_on_files command ≡ false
-    → OnErr r (StepInPart book old command new) → OnErr r (StepInPart book (beside k old) command (beside k new))
-broken_beside k book old new command (Ok x) e h = tt
-broken_beside k book old new command (Err x) e h = part_beside k book old new command e h
+pub broken_beside : (M : Meanings) {E F : Type 0} (k : Store) (book : List Rule) (old new : Machine) (command : Spoken) (r : Result F E) → is_on_files command ≡ false
+    → OnErr r (StepInPart M book old command new) → OnErr r (StepInPart M book (beside k old) command (beside k new))
+broken_beside M k book old new command (Ok x) e h = tt
+broken_beside M k book old new command (Err x) e h = part_beside M k book old new command e h
 
 -- ---- files
 pub files_stay : (fs : _) → FilesStay fs fs

@@ -1,4 +1,5 @@
 -- A step that builds objects is the same beside any store.
+use Rattle.pm_client.specs.Meanings.{Meanings}
 use Rattle.pm_command.specs.Commands.{ShapeSeen}
 use Rattle.pm_command.specs.declared.building.Builder.{Builder}
 use Rattle.pm_machine.proofs.BesideObjects.{becomes_beside, beside, gains_beside, stays_beside}
@@ -14,8 +15,8 @@ use Rattle.std.proofs.Common.{inl, inr}
 use Rattle.std.specs.Prelude.{List, [], ℕ, ◌∷◌}
 
 -- ---- ensuring
-module _ (k : Store) (book : List Rule) where
-  one_beside : (w : Wanted) (e : Ending) (rounds : List RoundSeen) (old new : Machine) → EnsuresOne book w e rounds old new → EnsuresOne book w e rounds (beside k old) (beside k new)
+module _ (k : Store) (M : Meanings) (book : List Rule) where
+  one_beside : (w : Wanted) (e : Ending) (rounds : List RoundSeen) (old new : Machine) → EnsuresOne M book w e rounds old new → EnsuresOne M book w e rounds (beside k old) (beside k new)
   one_beside w e rounds old new one = record {
     object = one.object;
     named = one.named;
@@ -25,19 +26,19 @@ module _ (k : Store) (book : List Rule) where
     becomes = becomes_beside k w.name one.now old new one.becomes;
   }
 
-  part_beside : (w : Wanted) (old new : Machine) → EnsuresOneInPart book w old new → EnsuresOneInPart book w (beside k old) (beside k new)
+  part_beside : (w : Wanted) (old new : Machine) → EnsuresOneInPart M book w old new → EnsuresOneInPart M book w (beside k old) (beside k new)
   part_beside w old new one = record { object = one.object; named = one.named; now = one.now; ensured = one.ensured; becomes = becomes_beside k w.name one.now old new one.becomes }
 
-  all_beside : (ws : List Wanted) (rounds : List RoundSeen) (old new : Machine) → EnsuresAll book ws rounds old new → EnsuresAll book ws rounds (beside k old) (beside k new)
+  all_beside : (ws : List Wanted) (rounds : List RoundSeen) (old new : Machine) → EnsuresAll M book ws rounds old new → EnsuresAll M book ws rounds (beside k old) (beside k new)
   all_beside [] rounds old new (none, s) = (none, stays_beside k old new s)
   all_beside (w ∷ ws) rounds old new (m, first, more, one, others, are) = (beside k m, first, more, one_beside w ending.Found first old m one, all_beside ws more m new others, are)
 
-  ends_beside : (ws : List Wanted) (e : Ending) (rounds : List RoundSeen) (old new : Machine) → EndsAt book ws e rounds old new → EndsAt book ws e rounds (beside k old) (beside k new)
+  ends_beside : (ws : List Wanted) (e : Ending) (rounds : List RoundSeen) (old new : Machine) → EndsAt M book ws e rounds old new → EndsAt M book ws e rounds (beside k old) (beside k new)
   ends_beside [] e rounds old new h = absurd h
   ends_beside (w ∷ ws) e rounds old new (inl (other, one)) = inl (other, one_beside w e rounds old new one)
   ends_beside (w ∷ ws) e rounds old new (inr (m, first, more, one, others, are)) = inr (beside k m, first, more, one_beside w ending.Found first old m one, ends_beside ws e more m new others, are)
 
-  pub parts_beside : (ws : List Wanted) (old new : Machine) → EnsuresInPart book ws old new → EnsuresInPart book ws (beside k old) (beside k new)
+  pub parts_beside : (ws : List Wanted) (old new : Machine) → EnsuresInPart M book ws old new → EnsuresInPart M book ws (beside k old) (beside k new)
   parts_beside [] old new s = stays_beside k old new s
   parts_beside (w ∷ ws) old new (inl s) = inl (stays_beside k old new s)
   parts_beside (w ∷ ws) old new (inr (inl one)) = inr (inl (part_beside w old new one))
@@ -48,14 +49,14 @@ pub make_beside : (k : Store) (old new : Machine) (to : List ℕ) (shape : Shape
 make_beside k old new to shape _ (is_refused r s) = is_refused r (stays_beside k old new s)
 make_beside k old new to shape _ (is_made h i told g) = is_made h i told (gains_beside k _ _ old new g)
 
-module _ (k : Store) (book : List Rule) (b : Builder) (old : Machine) (names : List (List ℕ)) (to : List ℕ) where
-  reads_beside : (rounds : List RoundSeen) (os : List State) (mid : Machine) → HasEnsured book b names to rounds os old mid → HasEnsured book b names to rounds os (beside k old) (beside k mid)
-  reads_beside rounds os mid r = record { free = r.free; types = r.types; ensured = all_beside k book (wanted_all (row_of b).reads names) rounds old mid r.ensured; objects = r.objects }
+module _ (k : Store) (M : Meanings) (book : List Rule) (b : Builder) (old : Machine) (names : List (List ℕ)) (to : List ℕ) where
+  reads_beside : (rounds : List RoundSeen) (os : List State) (mid : Machine) → HasEnsured M book b names to rounds os old mid → HasEnsured M book b names to rounds os (beside k old) (beside k mid)
+  reads_beside rounds os mid r = record { free = r.free; types = r.types; ensured = all_beside k M book (wanted_all (row_of b).reads names) rounds old mid r.ensured; objects = r.objects }
 
-  not_beside : (e : Ending) (more : Remarks) (new : Machine) → DoesNotRead book b names to e more old new → DoesNotRead book b names to e more (beside k old) (beside k new)
-  not_beside e more new d = record { free = d.free; types = d.types; rounds = d.rounds; ends = ends_beside k book (wanted_all (row_of b).reads names) e d.rounds old new d.ends; told = d.told }
+  not_beside : (e : Ending) (more : Remarks) (new : Machine) → DoesNotRead M book b names to e more old new → DoesNotRead M book b names to e more (beside k old) (beside k new)
+  not_beside e more new d = record { free = d.free; types = d.types; rounds = d.rounds; ends = ends_beside k M book (wanted_all (row_of b).reads names) e d.rounds old new d.ends; told = d.told }
 
-  pub build_beside : (reply : ReplySeen) (new : Machine) → BuildStep book b old names to reply new → BuildStep book b (beside k old) names to reply (beside k new)
+  pub build_beside : (reply : ReplySeen) (new : Machine) → BuildStep M book b old names to reply new → BuildStep M book b (beside k old) names to reply (beside k new)
   build_beside _ new (is_refused r s) = is_refused r (stays_beside k old new s)
   build_beside _ new (no_chain {more = more} d) = no_chain (not_beside ending.NoChain more new d)
   build_beside _ new (is_crowded {more = more} d) = is_crowded (not_beside ending.Crowded more new d)

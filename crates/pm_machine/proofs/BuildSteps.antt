@@ -1,4 +1,5 @@
 -- The steps of the commands that build objects, from what their functions do.
+use Rattle.pm_client.specs.Meanings.{Meanings}
 use Rattle.pm_client.specs.Starts.{Clients}
 use Rattle.pm_command.specs.Commands.{ShapeSeen}
 use Rattle.pm_command.specs.declared.building.Builder.{Builder}
@@ -127,40 +128,40 @@ same_objects old new [] s = refl
 same_objects old new (n ∷ ns) s = ap (λ z. z ∷ map new.object ns) (s.objects n) ∙ ap (λ z. old.object n ∷ z) (same_objects old new ns s)
 
 -- ---- the steps where all was found
-build_step : (book : List Rule) (b : Builder) (names : List (List ℕ)) (to : List ℕ) (rounds : List RoundSeen) (t : Rounds) (reply : ReplySeen) (clients : Clients) (old mid new : Machine) → IsNewName (shelf old) to → are_of (row_of b).of (shelf old) names ≡ true
-    → EnsuresAll book (wanted_all (row_of b).reads names) rounds old (with_clients clients mid) → t ≡ told_rounds book rounds → IsOfItsType b → HaveRead b mid names → Builds b names to t reply mid new
-    → BuildStep book b old names to reply (with_clients clients new)
-build_step book b names to rounds t (done told) clients old mid new free types all is of read (os, f, are, fits, same, g) =
+build_step : {M : Meanings} (book : List Rule) (b : Builder) (names : List (List ℕ)) (to : List ℕ) (rounds : List RoundSeen) (t : Rounds) (reply : ReplySeen) (clients : Clients) (old mid new : Machine) → IsNewName (shelf old) to → are_of (row_of b).of (shelf old) names ≡ true
+    → EnsuresAll M book (wanted_all (row_of b).reads names) rounds old (with_clients clients mid) → t ≡ told_rounds book rounds → IsOfItsType b → HaveRead b mid names → Builds b names to t reply mid new
+    → BuildStep M book b old names to reply (with_clients clients new)
+build_step {M = M} book b names to rounds t (done told) clients old mid new free types all is of read (os, f, are, fits, same, g) =
     is_made {mid = with_clients clients mid} rounds os f (record { free = free; types = types; ensured = all; objects = are }) fits (gains_with clients to _ mid new g) (same ∙ is)
-build_step book b names to rounds t (refused (NotFit c) more) clients old mid new free types all is of read (os, are, fails, same, s) =
+build_step {M = M} book b names to rounds t (refused (NotFit c) more) clients old mid new free types all is of read (os, are, fails, same, s) =
     not_fit rounds os
     (record {
       free = free;
       types = types;
-      ensured = all_stay book (wanted_all (row_of b).reads names) rounds old (with_clients clients mid) (with_clients clients new) all (stays_with clients mid new s);
+      ensured = all_stay M book (wanted_all (row_of b).reads names) rounds old (with_clients clients mid) (with_clients clients new) all (stays_with clients mid new s);
       objects = same_objects mid new names s ∙ are;
     })
     (of os c (read_types (row_of b).of (row_of b).reads mid names os read are) fails) fails (same ∙ ap remarks_of is)
-build_step book b names to rounds t (refused (NotMade why) more) clients old mid new free types all is of read (os, are, shown, same, s) =
+build_step {M = M} book b names to rounds t (refused (NotMade why) more) clients old mid new free types all is of read (os, are, shown, same, s) =
     not_made rounds os
     (record {
       free = free;
       types = types;
-      ensured = all_stay book (wanted_all (row_of b).reads names) rounds old (with_clients clients mid) (with_clients clients new) all (stays_with clients mid new s);
+      ensured = all_stay M book (wanted_all (row_of b).reads names) rounds old (with_clients clients mid) (with_clients clients new) all (stays_with clients mid new s);
       objects = same_objects mid new names s ∙ are;
     })
     shown (same ∙ ap remarks_of is)
-build_step book b names to rounds t reply clients old mid new free types all is of read h = absurd h
+build_step {M = M} book b names to rounds t reply clients old mid new free types all is of read h = absurd h
 
-pub build_answered : {F E : Type 0} (view : F → ReplySeen) (r : Result F E) (book : List Rule) (b : Builder) (names : List (List ℕ)) (to : List ℕ) (rounds : List RoundSeen) (t : Rounds) (clients : Clients) (old mid new : Machine) → IsNewName (shelf old) to → are_of (row_of b).of (shelf old) names ≡ true
-    → EnsuresAll book (wanted_all (row_of b).reads names) rounds old (with_clients clients mid) → t ≡ told_rounds book rounds → IsOfItsType b → HaveRead b mid names → IfOk r (λ x. Builds b names to t (view x) mid new)
-    → IfOk r (λ x. BuildStep book b old names to (view x) (with_clients clients new))
-build_answered view (Ok x) book b names to rounds t clients old mid new free types all is of read h = build_step book b names to rounds t (view x) clients old mid new free types all is of read h
-build_answered view (Err e) book b names to rounds t clients old mid new free types all is of read h = tt
+pub build_answered : (M : Meanings) {F E : Type 0} (view : F → ReplySeen) (r : Result F E) (book : List Rule) (b : Builder) (names : List (List ℕ)) (to : List ℕ) (rounds : List RoundSeen) (t : Rounds) (clients : Clients) (old mid new : Machine) → IsNewName (shelf old) to → are_of (row_of b).of (shelf old) names ≡ true
+    → EnsuresAll M book (wanted_all (row_of b).reads names) rounds old (with_clients clients mid) → t ≡ told_rounds book rounds → IsOfItsType b → HaveRead b mid names → IfOk r (λ x. Builds b names to t (view x) mid new)
+    → IfOk r (λ x. BuildStep M book b old names to (view x) (with_clients clients new))
+build_answered M view (Ok x) book b names to rounds t clients old mid new free types all is of read h = build_step book b names to rounds t (view x) clients old mid new free types all is of read h
+build_answered M view (Err e) book b names to rounds t clients old mid new free types all is of read h = tt
 
 -- ---- what is read
-pub reads_done : (what : Builder) (book : List Rule) (names : List (List ℕ)) (rounds : List RoundSeen) (old new : Machine) → EnsuresAll book (wanted_all (row_of what).reads names) rounds old new → are_of (row_of what).of (shelf old) names ≡ true → HaveRead what new names
-reads_done what book names rounds old new all types = let r = reads_some what in all_have_read book rounds old new what r.0 r.1 names r.2 all types
+pub reads_done : (M : Meanings) (what : Builder) (book : List Rule) (names : List (List ℕ)) (rounds : List RoundSeen) (old new : Machine) → EnsuresAll M book (wanted_all (row_of what).reads names) rounds old new → are_of (row_of what).of (shelf old) names ≡ true → HaveRead what new names
+reads_done M what book names rounds old new all types = let r = reads_some what in all_have_read M book rounds old new what r.0 r.1 names r.2 all types
 
 -- what was asked of a type was asked of that of the row
 pub of_row : {answer : Bool} (type : ObjectType) (b : Builder) (m : Machine) (names : List (List ℕ)) → type ≡ (row_of b).of → are_of type (shelf m) names ≡ answer → are_of (row_of b).of (shelf m) names ≡ answer

@@ -1,4 +1,5 @@
 -- The examples of building, by what the definitions say.
+use Rattle.pm_client.specs.Meanings.{unsaid}
 use Rattle.pm_command.specs.Commands.{ShapeSeen, cube_shape}
 use Rattle.pm_command.specs.declared.building.Binary.TheVariants.{Refine}
 use Rattle.pm_command.specs.declared.building.Builder.{Builder}
@@ -57,13 +58,13 @@ shapes_are_made = record {
 }
 
 -- what no object has is not ensured
-not_ensured : (book : List Rule) (old new : Machine) (w : Wanted) (rounds : List RoundSeen) → old.object w.name ≡ None → EnsuresAll book (w ∷ []) rounds old new → ⊥
+not_ensured : (book : List Rule) (old new : Machine) (w : Wanted) (rounds : List RoundSeen) → old.object w.name ≡ None → EnsuresAll unsaid book (w ∷ []) rounds old new → ⊥
 not_ensured book old new w rounds none h = some_not_none (sym h.3.named ∙ none)
 
-no_end : (book : List Rule) (old new : Machine) (w : Wanted) (rounds : List RoundSeen) → EndsAt book (w ∷ []) ending.Found rounds old new → ⊥
+no_end : (book : List Rule) (old new : Machine) (w : Wanted) (rounds : List RoundSeen) → EndsAt unsaid book (w ∷ []) ending.Found rounds old new → ⊥
 no_end book old new w rounds h = elim h [ inl e ↦ e.0 refl | inr m ↦ m.4 ]
 
-nothing_of_it : (book : List Rule) (old new : Machine) (w : Wanted) → old.object w.name ≡ None → EnsuresInPart book (w ∷ []) old new → Stays old new
+nothing_of_it : (book : List Rule) (old new : Machine) (w : Wanted) → old.object w.name ≡ None → EnsuresInPart unsaid book (w ∷ []) old new → Stays old new
 nothing_of_it book old new w none h = elim h [ inl s ↦ s | inr m ↦ elim m [ inl p ↦ absurd (some_not_none (sym p.named ∙ none)) | inr q ↦ absurd (some_not_none (sym q.2.named ∙ none)) ] ]
 
 -- ---- operands
@@ -157,45 +158,45 @@ operands_are_read = record {
 
 -- ---- steps
 module _ (book : List Rule) (b : Builder) (old : Machine) (names : List (List ℕ)) (to : List ℕ) where
-  built : (new : Machine) (t : Rounds) → BuildStep book b old names to (done t) new → (os : List State) × (f : SavedFile) × Makes b os f × (new.object to ≡ Some (object_of f))
+  built : (new : Machine) (t : Rounds) → BuildStep unsaid book b old names to (done t) new → (os : List State) × (f : SavedFile) × Makes b os f × (new.object to ≡ Some (object_of f))
   built new t (is_made rounds os f reads made g is) = (os, f, made, g.object)
 
-  told_so : (new : Machine) (t : Rounds) → BuildStep book b old names to (done t) new → (rounds : List RoundSeen) × (t ≡ told_rounds book rounds)
+  told_so : (new : Machine) (t : Rounds) → BuildStep unsaid book b old names to (done t) new → (rounds : List RoundSeen) × (t ≡ told_rounds book rounds)
   told_so new t (is_made rounds os f reads made g is) = (rounds, is)
 
-  typed_so : (new : Machine) (t : Rounds) → BuildStep book b old names to (done t) new → are_of (row_of b).of (shelf old) names ≡ true
+  typed_so : (new : Machine) (t : Rounds) → BuildStep unsaid book b old names to (done t) new → are_of (row_of b).of (shelf old) names ≡ true
   typed_so new t (is_made rounds os f reads made g is) = reads.types
 
-  free_so : (new : Machine) (t : Rounds) → BuildStep book b old names to (done t) new → IsNewName (shelf old) to
+  free_so : (new : Machine) (t : Rounds) → BuildStep unsaid book b old names to (done t) new → IsNewName (shelf old) to
   free_so new t (is_made rounds os f reads made g is) = reads.free
 
-  unfit_so : (new : Machine) (more : Remarks) → BuildStep book b old names to (refused (NotFit condition.Centered) more) new → (os : List State) × ObjectsAre new names os × Unfit b os condition.Centered
+  unfit_so : (new : Machine) (more : Remarks) → BuildStep unsaid book b old names to (refused (NotFit condition.Centered) more) new → (os : List State) × ObjectsAre new names os × Unfit b os condition.Centered
   unfit_so new more (is_refused r s) = elim r [ no_new_name named n ↦ elim n [ ] ]
   unfit_so new more (not_fit rounds os reads apart fails is) = (os, reads.objects, fails)
 
-  unmade_so : (new : Machine) (why : NotMadeWhy) (more : Remarks) → BuildStep book b old names to (refused (NotMade why) more) new → (os : List State) × ObjectsAre new names os × Unmade b os why
+  unmade_so : (new : Machine) (why : NotMadeWhy) (more : Remarks) → BuildStep unsaid book b old names to (refused (NotMade why) more) new → (os : List State) × ObjectsAre new names os × Unmade b os why
   unmade_so new why more (is_refused r s) = elim r [ no_new_name named n ↦ elim n [ ] ]
   unmade_so new why more (not_made rounds os reads shown is) = (os, reads.objects, shown)
 
-  unmade_told : (new : Machine) (why : NotMadeWhy) (more : Remarks) → BuildStep book b old names to (refused (NotMade why) more) new → (rounds : List RoundSeen) × (more ≡ rounds_told book rounds)
+  unmade_told : (new : Machine) (why : NotMadeWhy) (more : Remarks) → BuildStep unsaid book b old names to (refused (NotMade why) more) new → (rounds : List RoundSeen) × (more ≡ rounds_told book rounds)
   unmade_told new why more (is_refused r s) = elim r [ no_new_name named n ↦ elim n [ ] ]
   unmade_told new why more (not_made rounds os reads shown is) = (rounds, is)
 
-  lacking : (new : Machine) (more : Remarks) → BuildStep book b old names to (refused NoChain more) new → DoesNotRead book b names to ending.NoChain more old new
+  lacking : (new : Machine) (more : Remarks) → BuildStep unsaid book b old names to (refused NoChain more) new → DoesNotRead unsaid book b names to ending.NoChain more old new
   lacking new more (is_refused r s) = elim r [ no_new_name named n ↦ elim n [ ] ]
   lacking new more (no_chain d) = d
 
-  crowding : (new : Machine) (more : Remarks) → BuildStep book b old names to (refused Crowded more) new → DoesNotRead book b names to ending.Crowded more old new
+  crowding : (new : Machine) (more : Remarks) → BuildStep unsaid book b old names to (refused Crowded more) new → DoesNotRead unsaid book b names to ending.Crowded more old new
   crowding new more (is_refused r s) = elim r [ no_new_name named n ↦ elim n [ ] ]
   crowding new more (is_crowded d) = d
 
-  none_else : (new : Machine) → BuildStep book b old names to undef new → ⊥
+  none_else : (new : Machine) → BuildStep unsaid book b old names to undef new → ⊥
   none_else new h = elim h [ ]
 
-one_cone : (book : List Rule) (b : Builder) (old : Machine) (name to : List ℕ) → (row_of b).of ≡ Polytope → old.object name ≡ Some (empty_object Cone) → IsNewName (shelf old) to → Stays old old → BuildStep book b old (name ∷ []) to (refused (NotFit condition.OfType) nothing) old
+one_cone : (book : List Rule) (b : Builder) (old : Machine) (name to : List ℕ) → (row_of b).of ≡ Polytope → old.object name ≡ Some (empty_object Cone) → IsNewName (shelf old) to → Stays old old → BuildStep unsaid book b old (name ∷ []) to (refused (NotFit condition.OfType) nothing) old
 one_cone book b old name to type is free s = is_refused (other_type (ap (λ z. is_some z && true) is) free (ap (λ z. z && true) (cone_is_none b old name type is))) s
 
-one_polytope : (book : List Rule) (b : Builder) (old new : Machine) (name to : List ℕ) → (row_of b).of ≡ Polytope → old.object name ≡ Some (empty_object Polytope) → BuildStep book b old (name ∷ []) to (refused (NotFit condition.OfType) nothing) new → ⊥
+one_polytope : (book : List Rule) (b : Builder) (old new : Machine) (name to : List ℕ) → (row_of b).of ≡ Polytope → old.object name ≡ Some (empty_object Polytope) → BuildStep unsaid book b old (name ∷ []) to (refused (NotFit condition.OfType) nothing) new → ⊥
 one_polytope book b old new name to type is (is_refused r s) = elim r [
   | other_type named free types ↦ true≢false (sym (ap (λ z. is_of_type (row_of b).of z && true) is ∙ ap (λ z. same_type z Polytope && true) type) ∙ types)
   | no_new_name named n ↦ elim n [ ]

@@ -1,4 +1,5 @@
 -- The examples, by what the definitions say.
+use Rattle.pm_client.specs.Meanings.{unsaid}
 use Rattle.pm_telling.specs.Telling.{evidence_of, held_told, names_told, programs_told}
 use Rattle.pm_machine.proofs.KeepingSteps.{some_not_none}
 use Rattle.pm_rounds.specs.Events.{Configuration}
@@ -107,15 +108,15 @@ objects_are_read = record {
 }
 
 -- ---- answers
-no_chain_told : (book : List Rule) (old new : Configuration) (sub : Option ℕ) (asked : PropSet) (more : Remarks) → Ensures book old sub asked (refused NoChain more) new
+no_chain_told : (book : List Rule) (old new : Configuration) (sub : Option ℕ) (asked : PropSet) (more : Remarks) → Ensures unsaid book old sub asked (refused NoChain more) new
     → more ≡ remarks true (later_rounds old.object new.object) [] None (names_told book new.object)
 no_chain_told book old new sub asked more (no_chain e told) = told
 
-crowding_told : (book : List Rule) (old new : Configuration) (sub : Option ℕ) (asked : PropSet) (more : Remarks) → Ensures book old sub asked (refused Crowded more) new
+crowding_told : (book : List Rule) (old new : Configuration) (sub : Option ℕ) (asked : PropSet) (more : Remarks) → Ensures unsaid book old sub asked (refused Crowded more) new
     → more ≡ remarks true (later_rounds old.object new.object) [] None (names_told book new.object)
 crowding_told book old new sub asked more (is_crowded e told) = told
 
-not_given_told : (book : List Rule) (old new : Configuration) (sub : Option ℕ) (name : List ℕ) (p : PropId) (more : Remarks) → Gives book old sub name p (refused NoChain more) new
+not_given_told : (book : List Rule) (old new : Configuration) (sub : Option ℕ) (name : List ℕ) (p : PropId) (more : Remarks) → Gives unsaid book old sub name p (refused NoChain more) new
     → more ≡ remarks false (later_rounds old.object new.object) [] None (names_told book new.object)
 not_given_told book old new sub name p more (no_chain e told) = told
 

@@ -1,4 +1,5 @@
 -- What objects hold stays while properties are ensured, and what was ensured is held after it: by the definitions alone.
+use Rattle.pm_client.specs.Meanings.{Meanings}
 use Rattle.pm_vector.proofs.Filters.{among_map}
 use Rattle.pm_vector.proofs.Lists.{All_among, Among, among_append_left, among_append_right, here, there}
 use Rattle.pm_command.specs.declared.building.Builder.{Builder}
@@ -68,8 +69,8 @@ events_grow : (sub : Option ℕ) (events : List Event) (c : Configuration) → G
 events_grow sub [] c = grows_itself c.object
 events_grow sub (e ∷ events) c = grows_on c.object (after_event sub e c).object (after_events sub events (after_event sub e c)).object (event_grows sub e c) (events_grow sub events (after_event sub e c))
 
-ensured_grows : (book : List Rule) (sub : Option ℕ) (asked : PropSet) (e : Ending) (old new : Configuration) → Ensured book sub asked e old new → Grows old.object new.object
-ensured_grows book sub asked e old new h = subst (λ (c : Configuration). Grows old.object c.object) (sym h.reaches.becomes) (events_grow sub h.reaches.events old)
+ensured_grows : {M : Meanings} (book : List Rule) (sub : Option ℕ) (asked : PropSet) (e : Ending) (old new : Configuration) → Ensured M book sub asked e old new → Grows old.object new.object
+ensured_grows {M = M} book sub asked e old new h = subst (λ (c : Configuration). Grows old.object c.object) (sym h.reaches.becomes) (events_grow sub h.reaches.events old)
 
 -- ---- what is held stays
 read_append : (sub : Option ℕ) (xs ys : List HeldValue) → read_at sub (xs ++ ys) ≡ read_at sub xs ++ read_at sub ys
@@ -124,30 +125,30 @@ settling_settles o = by (has_rounds o) refl
         inl (ap (λ t. is_held ConeAmbientDim (o.held ++ map (settled_at n) (if t then [] else names_to_settle o.held))) e ∙ first_named o.held n (is_held ConeAmbientDim o.held) _ _ _ _ refl)
 
 -- the first event of ensuring settles the object
-trace_settles : (book : List Rule) (sub : Option ℕ) (asked : PropSet) (events : List Event) (c : Configuration) → IsTrace book sub asked unsettled c events → phase_after_all unsettled events ≡ at_rest
+trace_settles : (M : Meanings) (book : List Rule) (sub : Option ℕ) (asked : PropSet) (events : List Event) (c : Configuration) → IsTrace M book sub asked unsettled c events → phase_after_all unsettled events ≡ at_rest
     → IsSettledOnce (after_events sub events c).object
-trace_settles book sub asked [] c trace ends = absurd (apart ends)
+trace_settles M book sub asked [] c trace ends = absurd (apart ends)
   where
     apart : unsettled ≡ at_rest → ⊥
     apart e = cc
-trace_settles book sub asked (settled ∷ events) c (may, trace) ends =
+trace_settles M book sub asked (settled ∷ events) c (may, trace) ends =
     settled_stays (after_event sub settled c).object (after_events sub events (after_event sub settled c)).object (events_grow sub events (after_event sub settled c)) (settling_settles c.object)
-trace_settles book sub asked (begun chain ∷ events) c (may, trace) ends = absurd may
-trace_settles book sub asked (started kind ∷ events) c (may, trace) ends = absurd may
-trace_settles book sub asked (committed answer ∷ events) c (may, trace) ends = absurd may
-trace_settles book sub asked (excluded e ∷ events) c (may, trace) ends = absurd may
-trace_settles book sub asked (written r ∷ events) c (may, trace) ends = absurd may
+trace_settles M book sub asked (begun chain ∷ events) c (may, trace) ends = absurd may
+trace_settles M book sub asked (started kind ∷ events) c (may, trace) ends = absurd may
+trace_settles M book sub asked (committed answer ∷ events) c (may, trace) ends = absurd may
+trace_settles M book sub asked (excluded e ∷ events) c (may, trace) ends = absurd may
+trace_settles M book sub asked (written r ∷ events) c (may, trace) ends = absurd may
 
-ensured_settles : (book : List Rule) (sub : Option ℕ) (asked : PropSet) (e : Ending) (old new : Configuration) → Ensured book sub asked e old new → IsSettledOnce new.object
-ensured_settles book sub asked e old new h =
-    subst (λ (c : Configuration). IsSettledOnce c.object) (sym h.reaches.becomes) (trace_settles book sub asked h.reaches.events old h.reaches.trace h.reaches.phase_is)
+ensured_settles : {M : Meanings} (book : List Rule) (sub : Option ℕ) (asked : PropSet) (e : Ending) (old new : Configuration) → Ensured M book sub asked e old new → IsSettledOnce new.object
+ensured_settles {M = M} book sub asked e old new h =
+    subst (λ (c : Configuration). IsSettledOnce c.object) (sym h.reaches.becomes) (trace_settles M book sub asked h.reaches.events old h.reaches.trace h.reaches.phase_is)
 
 -- ---- one property
 same_number : (n k : ℕ) → n ≡ k → eqb n k ≡ true
 same_number n k e = grind arith
 
-ensured_held : (book : List Rule) (p : PropId) (old new : Configuration) → Ensured book None (only p) ending.Found old new → is_held p (read_at None new.object.held) ≡ true
-ensured_held book p old new e = sym (names_held (read_at None new.object.held) p) ∙ e.ends p (has-only p p ∙ same_number (number p) (number p) refl)
+ensured_held : {M : Meanings} (book : List Rule) (p : PropId) (old new : Configuration) → Ensured M book None (only p) ending.Found old new → is_held p (read_at None new.object.held) ≡ true
+ensured_held {M = M} book p old new e = sym (names_held (read_at None new.object.held) p) ∙ e.ends p (has-only p p ∙ same_number (number p) (number p) refl)
 
 -- the object of a name has become one that grew
 pub record HasGrown (q : List ℕ) (o : State) (new : Machine) : Type 0 where
@@ -155,8 +156,8 @@ pub record HasGrown (q : List ℕ) (o : State) (new : Machine) : Type 0 where
   pub is : new.object q ≡ Some object
   pub grows : Grows o object
 
-module _ (book : List Rule) where
-  one_grows : (w : Wanted) (e : Ending) (rounds : List RoundSeen) (old new : Machine) (q : List ℕ) (o : State) → EnsuresOne book w e rounds old new → old.object q ≡ Some o → HasGrown q o new
+module _ (M : Meanings) (book : List Rule) where
+  one_grows : (w : Wanted) (e : Ending) (rounds : List RoundSeen) (old new : Machine) (q : List ℕ) (o : State) → EnsuresOne M book w e rounds old new → old.object q ≡ Some o → HasGrown q o new
   one_grows w e rounds old new q o one is = elim (decide (bytes_eq q w.name)) [
     | inl same ↦ (
         let at : q ≡ w.name = (bytes_eq-Decides q w.name).0 same in
@@ -170,25 +171,25 @@ module _ (book : List Rule) where
     | inr other ↦ record { object = o; is = one.becomes.others q (λ at. true≢false (sym ((bytes_eq-Decides q w.name).1 at) ∙ other)) ∙ is; grows = grows_itself o }
   ]
 
-  one_none : (w : Wanted) (e : Ending) (rounds : List RoundSeen) (old new : Machine) (q : List ℕ) → EnsuresOne book w e rounds old new → old.object q ≡ None → new.object q ≡ None
+  one_none : (w : Wanted) (e : Ending) (rounds : List RoundSeen) (old new : Machine) (q : List ℕ) → EnsuresOne M book w e rounds old new → old.object q ≡ None → new.object q ≡ None
   one_none w e rounds old new q one none = elim (decide (bytes_eq q w.name)) [
     | inl same ↦ absurd (none-some _ (sym none ∙ ap old.object ((bytes_eq-Decides q w.name).0 same) ∙ one.named))
     | inr other ↦ one.becomes.others q (λ at. true≢false (sym ((bytes_eq-Decides q w.name).1 at) ∙ other)) ∙ none
   ]
 
   -- ---- several
-  pub all_grow : (ws : List Wanted) (rounds : List RoundSeen) (old new : Machine) (q : List ℕ) (o : State) → EnsuresAll book ws rounds old new → old.object q ≡ Some o → HasGrown q o new
+  pub all_grow : (ws : List Wanted) (rounds : List RoundSeen) (old new : Machine) (q : List ℕ) (o : State) → EnsuresAll M book ws rounds old new → old.object q ≡ Some o → HasGrown q o new
   all_grow [] rounds old new q o (none, s) is = record { object = o; is = s.objects q ∙ is; grows = grows_itself o }
   all_grow (w ∷ ws) rounds old new q o (m, first, more, one, others, are) is =
       let a = one_grows w ending.Found first old m q o one is in
       let b = all_grow ws more m new q a.object others a.is in
       record { object = b.object; is = b.is; grows = grows_on o a.object b.object a.grows b.grows }
 
-  pub all_none : (ws : List Wanted) (rounds : List RoundSeen) (old new : Machine) (q : List ℕ) → EnsuresAll book ws rounds old new → old.object q ≡ None → new.object q ≡ None
+  pub all_none : (ws : List Wanted) (rounds : List RoundSeen) (old new : Machine) (q : List ℕ) → EnsuresAll M book ws rounds old new → old.object q ≡ None → new.object q ≡ None
   all_none [] rounds old new q (none, s) is = s.objects q ∙ is
   all_none (w ∷ ws) rounds old new q (m, first, more, one, others, are) is = all_none ws more m new q others (one_none w ending.Found first old m q one is)
 
-  pub still_some : (ws : List Wanted) (rounds : List RoundSeen) (old new : Machine) (q : List ℕ) → EnsuresAll book ws rounds old new → is_some (old.object q) ≡ true → is_some (new.object q) ≡ true
+  pub still_some : (ws : List Wanted) (rounds : List RoundSeen) (old new : Machine) (q : List ℕ) → EnsuresAll M book ws rounds old new → is_some (old.object q) ≡ true → is_some (new.object q) ≡ true
   still_some ws rounds old new q all some = by (old.object q) refl some
     where
       by : (x : Option State) → old.object q ≡ x → is_some x ≡ true → is_some (new.object q) ≡ true
@@ -196,7 +197,7 @@ module _ (book : List Rule) where
       by (Some o) is h = ap is_some (all_grow ws rounds old new q o all is).is
 
   -- what was ensured of an object is held by it after all
-  pub all_read : (ws : List Wanted) (rounds : List RoundSeen) (old new : Machine) {w : Wanted} (o : State) → Among w ws → EnsuresAll book ws rounds old new → new.object w.name ≡ Some o
+  pub all_read : (ws : List Wanted) (rounds : List RoundSeen) (old new : Machine) {w : Wanted} (o : State) → Among w ws → EnsuresAll M book ws rounds old new → new.object w.name ≡ Some o
       → (is_held w.property (read_at None o.held) ≡ true) × IsSettledOnce o
   all_read [] rounds old new o i all is = elim i [ ]
   all_read (w ∷ ws) rounds old new o here (m, first, more, one, others, are) is =
@@ -209,7 +210,7 @@ module _ (book : List Rule) where
   all_read (v ∷ ws) rounds old new o (there i) (m, first, more, one, others, are) is = all_read ws more m new o i others is
 
   -- the object of the name has been read
-  has_read : (ws : List Wanted) (rounds : List RoundSeen) (old new : Machine) (name : List ℕ) (type : ObjectType) (p : PropId) (ps : List PropId) → EnsuresAll book ws rounds old new → is_of_type type (old.object name) ≡ true
+  has_read : (ws : List Wanted) (rounds : List RoundSeen) (old new : Machine) (name : List ℕ) (type : ObjectType) (p : PropId) (ps : List PropId) → EnsuresAll M book ws rounds old new → is_of_type type (old.object name) ≡ true
       → ((q : PropId) → Among q (p ∷ ps) → Among (record { name = name; property = q }) ws) → HasRead type (p ∷ ps) (new.object name)
   has_read ws rounds old new name type p ps all typed wanted = by (old.object name) refl typed
     where
@@ -239,7 +240,7 @@ module _ (book : List Rule) where
   wanted_each ps (m ∷ k ∷ ns) n here q i = among_append_left (wanted_all ps (k ∷ ns)) (wanted_one n ps q i)
   wanted_each ps (m ∷ k ∷ ns) n (there j) q i = among_append_right (wanted_of m ps) (wanted_each ps (k ∷ ns) n j q i)
 
-  each_read : (ws : List Wanted) (rounds : List RoundSeen) (old new : Machine) (type : ObjectType) (p : PropId) (ps : List PropId) (names : List (List ℕ)) → EnsuresAll book ws rounds old new
+  each_read : (ws : List Wanted) (rounds : List RoundSeen) (old new : Machine) (type : ObjectType) (p : PropId) (ps : List PropId) (names : List (List ℕ)) → EnsuresAll M book ws rounds old new
       → ((n : List ℕ) → Among n names → (q : PropId) → Among q (p ∷ ps) → Among (record { name = n; property = q }) ws) → are_of type (shelf old) names ≡ true → AllByRecursion (λ n. HasRead type (p ∷ ps) (new.object n)) names
   each_read ws rounds old new type p ps [] all wanted types = tt
   each_read ws rounds old new type p ps (n ∷ ns) all wanted types =
@@ -247,7 +248,7 @@ module _ (book : List Rule) where
       (has_read ws rounds old new n type p ps all t.0 (wanted n here), each_read ws rounds old new type p ps ns all (λ m i. wanted m (there i)) t.1)
 
   -- what is read of the objects of a command has been read
-  pub all_have_read : (rounds : List RoundSeen) (old new : Machine) (b : Builder) (p : PropId) (ps : List PropId) (names : List (List ℕ)) → (row_of b).reads ≡ p ∷ ps → EnsuresAll book (wanted_all (row_of b).reads names) rounds old new → are_of (row_of b).of (shelf old) names ≡ true → HaveRead b new names
+  pub all_have_read : (rounds : List RoundSeen) (old new : Machine) (b : Builder) (p : PropId) (ps : List PropId) (names : List (List ℕ)) → (row_of b).reads ≡ p ∷ ps → EnsuresAll M book (wanted_all (row_of b).reads names) rounds old new → are_of (row_of b).of (shelf old) names ≡ true → HaveRead b new names
   all_have_read rounds old new b p ps names same all types =
       subst (λ z. AllByRecursion (λ n. HasRead (row_of b).of z (new.object n)) names) (sym same)
-      (each_read (wanted_all (p ∷ ps) names) rounds old new (row_of b).of p ps names (subst (λ z. EnsuresAll book (wanted_all z names) rounds old new) same all) (wanted_each (p ∷ ps) names) types)
+      (each_read (wanted_all (p ∷ ps) names) rounds old new (row_of b).of p ps names (subst (λ z. EnsuresAll M book (wanted_all z names) rounds old new) same all) (wanted_each (p ∷ ps) names) types)

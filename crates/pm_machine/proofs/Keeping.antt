@@ -1,4 +1,5 @@
 -- What is so of each object of a machine stays so, where one changes or none.
+use Rattle.pm_client.specs.Meanings.{unsaid}
 use Rattle.pm_files.specs.Files.{SavedFile}
 use Rattle.pm_filing.specs.Filing.{loaded_object}
 use Rattle.pm_machine.specs.Machines.{Becomes, Machine, Stays}
@@ -37,8 +38,8 @@ pub record Keeping (book : List Rule) (P Q : State → Type 0) : Type 0 where
   pub program : (o : State) (name : List ℕ) → P o → P (with_program o name)
   pub disabled : (o : State) (label : List ℕ) → P o → P (with_disabled o label)
   pub settled : (o : State) → P o → P (with_held o (settling o))
-  pub ensured : (sub : Option ℕ) (asked : PropSet) (ending : Ending) (old new : Configuration) → Ensured book sub asked ending old new → P old.object → P new.object
-  pub in_part : (sub : Option ℕ) (asked : PropSet) (old new : Configuration) → EnsuredInPart book sub asked old new → P old.object → Q new.object
+  pub ensured : (sub : Option ℕ) (asked : PropSet) (ending : Ending) (old new : Configuration) → Ensured unsaid book sub asked ending old new → P old.object → P new.object
+  pub in_part : (sub : Option ℕ) (asked : PropSet) (old new : Configuration) → EnsuredInPart unsaid book sub asked old new → P old.object → Q new.object
   pub made : (f : SavedFile) → P (object_of f)
   pub loaded : (f : SavedFile) → P (loaded_object book f)
 
@@ -70,6 +71,6 @@ each_weaker P Q f m all q = weaker_at P Q f (m.object q) (all q)
 
 -- rounds on one object were broken off
 pub becomes_in_part : {book : List Rule} {P Q : State → Type 0} → Keeping book P Q → (sub : Option ℕ) (asked : PropSet) (old new : Machine) (name : List ℕ) (o : State) (now : Configuration) → P o
-    → EnsuredInPart book sub asked (configuration o old.clients) now → Becomes name now old new → Each P old → Each Q new
+    → EnsuredInPart unsaid book sub asked (configuration o old.clients) now → Becomes name now old new → Each P old → Each Q new
 becomes_in_part {book} {P} {Q} k sub asked old new name o now so part becomes all =
     with_one Q name now.object old new becomes.object becomes.others (k.in_part sub asked (configuration o old.clients) now part so) (each_weaker P Q k.weaker old all)

@@ -1,4 +1,5 @@
 -- What each command does keeps what is so of each object: by the definitions of the steps alone.
+use Rattle.pm_client.specs.Meanings.{unsaid}
 use Rattle.pm_machine.proofs.Keeping.{Each, Keeping, at_name, becomes_in_part, becomes_so, decide, each_weaker, other_bytes, same_bytes, same_so, stays_so, with_one}
 use Rattle.pm_machine.proofs.KeepingBuilding.{build_keeps, make_keeps, parts_keep}
 use Rattle.pm_making.specs.Rows.{row_of}
@@ -71,29 +72,29 @@ module _ {book : List Rule} {P Q : State → Type 0} (keeping : Keeping book P Q
   take_keeps old new ref text json _ (now_held x p v at named taken told becomes) all =
       becomes_so P ref.name _ old new becomes (keeping.taken x.object x.sub p v (taken_free x.object x.sub p _ v taken) (at_ref P old ref x at all)) all
 
-  given_kept : (old new : Configuration) (sub : Option ℕ) (name : List ℕ) (p : PropId) (reply : ReplySeen) → Gives book old sub name p reply new → P old.object → P new.object
+  given_kept : (old new : Configuration) (sub : Option ℕ) (name : List ℕ) (p : PropId) (reply : ReplySeen) → Gives unsaid book old sub name p reply new → P old.object → P new.object
   given_kept old new sub name p _ (no_chain e told) kept = keeping.ensured sub (only_property p) ending.NoChain old new e kept
   given_kept old new sub name p _ (is_crowded e told) kept = keeping.ensured sub (only_property p) ending.Crowded old new e kept
   given_kept old new sub name p _ (is_shown e same typed is held rounds) kept = keeping.ensured sub (only_property p) ending.Found old new e kept
 
-  gave_keeps : (old new : Machine) (ref : RefSeen) (text : List ℕ) (reply : ReplySeen) → Gave book old ref text reply new → Each P old → Each P new
+  gave_keeps : (old new : Machine) (ref : RefSeen) (text : List ℕ) (reply : ReplySeen) → Gave unsaid book old ref text reply new → Each P old → Each P new
   gave_keeps old new ref text reply (x, at, p, named, c, gives, becomes) all =
       becomes_so P ref.name c old new becomes (given_kept (configuration x.object old.clients) c x.sub (ref_text ref) p reply gives (at_ref P old ref x at all)) all
 
-  give_keeps : (old new : Machine) (ref : RefSeen) (text : List ℕ) (reply : ReplySeen) → GiveStep book old ref text reply new → Each P old → Each P new
+  give_keeps : (old new : Machine) (ref : RefSeen) (text : List ℕ) (reply : ReplySeen) → GiveStep unsaid book old ref text reply new → Each P old → Each P new
   give_keeps old new ref text _ (is_refused r s) all = stays_so P old new s all
   give_keeps old new ref text reply (is_asked h) all = gave_keeps old new ref text reply h all
 
-  all_ensured_kept : (old new : Configuration) (sub : Option ℕ) (asked : PropSet) (reply : ReplySeen) → Ensures book old sub asked reply new → P old.object → P new.object
+  all_ensured_kept : (old new : Configuration) (sub : Option ℕ) (asked : PropSet) (reply : ReplySeen) → Ensures unsaid book old sub asked reply new → P old.object → P new.object
   all_ensured_kept old new sub asked _ (no_chain e told) kept = keeping.ensured sub asked ending.NoChain old new e kept
   all_ensured_kept old new sub asked _ (is_crowded e told) kept = keeping.ensured sub asked ending.Crowded old new e kept
   all_ensured_kept old new sub asked _ (is_found e told) kept = keeping.ensured sub asked ending.Found old new e kept
 
-  ensured_all_keeps : (old new : Machine) (ref : RefSeen) (words : List (List ℕ)) (reply : ReplySeen) → EnsuredAll book old ref words reply new → Each P old → Each P new
+  ensured_all_keeps : (old new : Machine) (ref : RefSeen) (words : List (List ℕ)) (reply : ReplySeen) → EnsuredAll unsaid book old ref words reply new → Each P old → Each P new
   ensured_all_keeps old new ref words reply (x, at, asked, named, c, ensures, becomes) all =
       becomes_so P ref.name c old new becomes (all_ensured_kept (configuration x.object old.clients) c x.sub asked reply ensures (at_ref P old ref x at all)) all
 
-  ensure_keeps : (old new : Machine) (ref : RefSeen) (words : List (List ℕ)) (reply : ReplySeen) → EnsureStep book old ref words reply new → Each P old → Each P new
+  ensure_keeps : (old new : Machine) (ref : RefSeen) (words : List (List ℕ)) (reply : ReplySeen) → EnsureStep unsaid book old ref words reply new → Each P old → Each P new
   ensure_keeps old new ref words _ (is_refused r s) all = stays_so P old new s all
   ensure_keeps old new ref words reply (is_asked h) all = ensured_all_keeps old new ref words reply h all
 
@@ -167,7 +168,7 @@ module _ {book : List Rule} {P Q : State → Type 0} (keeping : Keeping book P Q
   save_keeps old new name file _ (store_failed o at short fails p) all = same_so P old new p.objects all
   save_keeps old new name file _ (is_saved o told at short p again) all = same_so P old new p.objects all
 
-  pub steps_keep : (old new : Machine) (command : Spoken) (reply : ReplySeen) → Step book old command reply new → Each P old → Each P new
+  pub steps_keep : (old new : Machine) (command : Spoken) (reply : ReplySeen) → Step unsaid book old command reply new → Each P old → Each P new
   steps_keep old new blank reply h all = absurd h
   steps_keep old new (new_object ref text) reply h all = new_keeps old new ref text reply h all
   steps_keep old new (take_value ref text json) reply h all = take_keeps old new ref text json reply h all
@@ -190,7 +191,7 @@ module _ {book : List Rule} {P Q : State → Type 0} (keeping : Keeping book P Q
   steps_keep old new (build_object builder names to) reply h all = build_keeps keeping builder old new names to reply h all
 
   -- ---- a step that was broken off
-  part_keeps : (asked : PropSet) (old new : Machine) (ref : RefSeen) (x : Named) (now : Configuration) → named_at (shelf old) ref ≡ Some x → EnsuredInPart book x.sub asked (configuration x.object old.clients) now
+  part_keeps : (asked : PropSet) (old new : Machine) (ref : RefSeen) (x : Named) (now : Configuration) → named_at (shelf old) ref ≡ Some x → EnsuredInPart unsaid book x.sub asked (configuration x.object old.clients) now
       → Becomes ref.name now old new → Each P old → Each Q new
   part_keeps asked old new ref x now named part becomes all = becomes_in_part keeping x.sub asked old new ref.name x.object now (at_ref P old ref x named all) part becomes all
 
@@ -198,7 +199,7 @@ module _ {book : List Rule} {P Q : State → Type 0} (keeping : Keeping book P Q
   settled_keeps old new ref words s all =
       each_weaker P Q keeping.weaker new (becomes_so P ref.name _ old new s.becomes (keeping.settled s.found.object (at_ref P old ref s.found s.named all)) all)
 
-  pub steps_in_part_keep : (old new : Machine) (command : Spoken) → StepInPart book old command new → Each P old → Each Q new
+  pub steps_in_part_keep : (old new : Machine) (command : Spoken) → StepInPart unsaid book old command new → Each P old → Each Q new
   steps_in_part_keep old new (give_value ref text) (inl s) all = each_weaker P Q keeping.weaker new (stays_so P old new s all)
   steps_in_part_keep old new (give_value ref text) (inr g) all = part_keeps (only_property g.property) old new ref g.found g.now g.named g.ensured g.becomes all
   steps_in_part_keep old new (ensure_values ref words) (inl s) all = each_weaker P Q keeping.weaker new (stays_so P old new s all)

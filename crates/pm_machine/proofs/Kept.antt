@@ -1,4 +1,5 @@
 -- A step leaves each object honest: by the definitions alone.
+use Rattle.pm_client.specs.Meanings.{unsaid}
 use Rattle.pm_vector.proofs.Filters.{map_among}
 use Rattle.pm_vector.proofs.Lists.{among_Contains}
 use Rattle.pm_command.specs.Commands.{RefSeen, Spoken}
@@ -79,8 +80,8 @@ honesty book = record {
   program = program_is_kept;
   disabled = λ o label kept. record { honest = honesty_is_of_values o (with_disabled o label) refl refl kept.honest; based = kept.based };
   settled = settled_is_kept;
-  ensured = λ sub asked ending old new e kept. reaching_keeps book sub asked unsettled at_rest old new e.reaches kept;
-  in_part = λ sub asked old new part kept. ensuring_in_part_keeps book sub asked old new part kept;
+  ensured = λ sub asked ending old new e kept. reaching_keeps unsaid book sub asked unsettled at_rest old new e.reaches kept;
+  in_part = λ sub asked old new part kept. ensuring_in_part_keeps unsaid book sub asked old new part kept;
   made = made_is_kept;
   loaded = loaded_is_kept book;
 }
@@ -94,8 +95,8 @@ all_honest m all = record { each = each_weaker IsKept IsHonest (λ o kept. kept.
 pub stays_honest : (old new : Machine) → Stays old new → AllKept old → AllHonest new
 stays_honest old new s all = all_honest new (record { each = stays_so IsKept old new s all.each })
 
-pub steps_keep : (book : List Rule) (old new : Machine) (command : Spoken) (reply : ReplySeen) → Step book old command reply new → AllKept old → AllKept new
+pub steps_keep : (book : List Rule) (old new : Machine) (command : Spoken) (reply : ReplySeen) → Step unsaid book old command reply new → AllKept old → AllKept new
 steps_keep book old new command reply h all = record { each = steps.steps_keep (honesty book) old new command reply h all.each }
 
-pub steps_in_part_keep : (book : List Rule) (old new : Machine) (command : Spoken) → StepInPart book old command new → AllKept old → AllHonest new
+pub steps_in_part_keep : (book : List Rule) (old new : Machine) (command : Spoken) → StepInPart unsaid book old command new → AllKept old → AllHonest new
 steps_in_part_keep book old new command h all = record { each = steps.steps_in_part_keep (honesty book) old new command h all.each }

@@ -19,3 +19,5 @@ pub mod BuildNames
 pub mod Examples
 pub mod RefusalExamples
 pub mod BuildingExamples
+pub mod NarrowBuilding
+pub mod Narrowing

@@ -1,7 +1,10 @@
 -- Objects by name, and the steps that change one.
+use Rattle.pm_client.specs.Meanings.{Meanings, unsaid}
 use Rattle.pm_telling.specs.Telling.{evidence_of, held_told, named_rounds, names_told, programs_told}
 use Rattle.pm_client.specs.Starts.{Clients}
 use Rattle.pm_object_type.specs.declared.object_type.ObjectType.{ObjectType}
+use Rattle.pm_machine.proofs.Narrowing.{part_more, step_more}
+use Rattle.pm_rounds.proofs.Narrowing.{narrows_unsaid}
 use Rattle.pm_machine.proofs.Ensuring.{stays_part}
 use Rattle.pm_machine.proofs.Kept.{steps_in_part_keep, steps_keep}
 use Rattle.pm_machine.proofs.Kept.{all_honest}
@@ -218,45 +221,45 @@ module _ {ns ms : List (List ℕ)} {old new : List ℕ → Option State} {name :
           → TakeStep (machine_with ns old clients) (ref_with name part) text json (done no_rounds) (machine_with ms new clients)
       take_done clients json p named (v, t, same) = now_held (named_of o sub) p v (at clients) named t refl (becomes_so clients _ same)
 
-      pub give_unknown : (book : List Rule) (clients : Clients) → property_named o.of sub text ≡ None → o' ≡ o
-          → GiveStep book (machine_with ns old clients) (ref_with name part) text (refused UnknownProperty nothing) (machine_with ms new clients)
-      give_unknown book clients none same = is_refused (no_such_property (named_of o sub) (at clients) none) (stays_with clients same)
+      pub give_unknown : {M : Meanings} (book : List Rule) (clients : Clients) → property_named o.of sub text ≡ None → o' ≡ o
+          → GiveStep M book (machine_with ns old clients) (ref_with name part) text (refused UnknownProperty nothing) (machine_with ms new clients)
+      give_unknown {M = M} book clients none same = is_refused (no_such_property (named_of o sub) (at clients) none) (stays_with clients same)
 
-      pub give_step : {F E : Type 0} (view : F → ReplySeen) (r : Result F E) (book : List Rule) (clients after : Clients) (p : PropId) (called : List ℕ) → property_named o.of sub text ≡ Some p → called ≡ ref_text (ref_with name part)
-          → IfOk r (λ x. Gives book (configuration o clients) sub called p (view x) (configuration o' after))
-          → IfOk r (λ x. GiveStep book (machine_with ns old clients) (ref_with name part) text (view x) (machine_with ms new after))
-      give_step view (Err x) book clients after p called named call g = tt
-      give_step view (Ok x) book clients after p called named call g =
-          is_asked (named_of o sub, at clients, p, named, configuration o' after, subst (λ z. Gives book (configuration o clients) sub z p (view x) (configuration o' after)) call g, becomes clients after)
+      pub give_step : (M : Meanings) {F E : Type 0} (view : F → ReplySeen) (r : Result F E) (book : List Rule) (clients after : Clients) (p : PropId) (called : List ℕ) → property_named o.of sub text ≡ Some p → called ≡ ref_text (ref_with name part)
+          → IfOk r (λ x. Gives M book (configuration o clients) sub called p (view x) (configuration o' after))
+          → IfOk r (λ x. GiveStep M book (machine_with ns old clients) (ref_with name part) text (view x) (machine_with ms new after))
+      give_step M view (Err x) book clients after p called named call g = tt
+      give_step M view (Ok x) book clients after p called named call g =
+          is_asked (named_of o sub, at clients, p, named, configuration o' after, subst (λ z. Gives M book (configuration o clients) sub z p (view x) (configuration o' after)) call g, becomes clients after)
 
-      pub gave_in_part : {T E : Type 0} (r : Result T E) (book : List Rule) (clients after : Clients) (p : PropId) → property_named o.of sub text ≡ Some p
-          → OnErr r (EnsuredInPart book sub (only p) (configuration o clients) (configuration o' after))
-          → OnErr r (StepInPart book (machine_with ns old clients) (give_value (ref_with name part) text) (machine_with ms new after))
-      gave_in_part (Ok x) book clients after p named e = tt
-      gave_in_part (Err x) book clients after p named e =
+      pub gave_in_part : (M : Meanings) {T E : Type 0} (r : Result T E) (book : List Rule) (clients after : Clients) (p : PropId) → property_named o.of sub text ≡ Some p
+          → OnErr r (EnsuredInPart M book sub (only p) (configuration o clients) (configuration o' after))
+          → OnErr r (StepInPart M book (machine_with ns old clients) (give_value (ref_with name part) text) (machine_with ms new after))
+      gave_in_part M (Ok x) book clients after p named e = tt
+      gave_in_part M (Err x) book clients after p named e =
           inr (record { found = named_of o sub; named = at clients; property = p; is_property = named; now = configuration o' after; ensured = e; becomes = becomes clients after })
 
     -- several properties
     module _ (words : List (List ℕ)) where
-      pub ensure_unknown : (book : List Rule) (clients : Clients) → asked_in o.of sub words ≡ None → o' ≡ o
-          → EnsureStep book (machine_with ns old clients) (ref_with name part) words (refused UnknownProperty nothing) (machine_with ms new clients)
-      ensure_unknown book clients none same = is_refused (no_such_property (named_of o sub) (at clients) none) (stays_with clients same)
+      pub ensure_unknown : {M : Meanings} (book : List Rule) (clients : Clients) → asked_in o.of sub words ≡ None → o' ≡ o
+          → EnsureStep M book (machine_with ns old clients) (ref_with name part) words (refused UnknownProperty nothing) (machine_with ms new clients)
+      ensure_unknown {M = M} book clients none same = is_refused (no_such_property (named_of o sub) (at clients) none) (stays_with clients same)
 
       pub explain_unknown : (book : List Rule) (clients : Clients) → asked_in o.of sub words ≡ None → o' ≡ o
           → ExplainStep book (machine_with ns old clients) (ref_with name part) words (refused UnknownProperty nothing) (machine_with ms new clients)
       explain_unknown book clients none same = is_refused (no_such_property (named_of o sub) (at clients) none) (stays_with clients same)
 
-      pub ensure_step : {F E : Type 0} (view : F → ReplySeen) (r : Result F E) (book : List Rule) (clients after : Clients) (asked : PropSet) → asked_in o.of sub words ≡ Some asked
-          → IfOk r (λ x. Ensures book (configuration o clients) sub asked (view x) (configuration o' after))
-          → IfOk r (λ x. EnsureStep book (machine_with ns old clients) (ref_with name part) words (view x) (machine_with ms new after))
-      ensure_step view (Err x) book clients after asked is g = tt
-      ensure_step view (Ok x) book clients after asked is g = is_asked (named_of o sub, at clients, asked, is, configuration o' after, g, becomes clients after)
+      pub ensure_step : (M : Meanings) {F E : Type 0} (view : F → ReplySeen) (r : Result F E) (book : List Rule) (clients after : Clients) (asked : PropSet) → asked_in o.of sub words ≡ Some asked
+          → IfOk r (λ x. Ensures M book (configuration o clients) sub asked (view x) (configuration o' after))
+          → IfOk r (λ x. EnsureStep M book (machine_with ns old clients) (ref_with name part) words (view x) (machine_with ms new after))
+      ensure_step M view (Err x) book clients after asked is g = tt
+      ensure_step M view (Ok x) book clients after asked is g = is_asked (named_of o sub, at clients, asked, is, configuration o' after, g, becomes clients after)
 
-      pub ensured_partly : {T E : Type 0} (r : Result T E) (book : List Rule) (clients after : Clients) (asked : PropSet) → asked_in o.of sub words ≡ Some asked
-          → OnErr r (EnsuredInPart book sub asked (configuration o clients) (configuration o' after))
-          → OnErr r (StepInPart book (machine_with ns old clients) (ensure_values (ref_with name part) words) (machine_with ms new after))
-      ensured_partly (Ok x) book clients after asked is e = tt
-      ensured_partly (Err x) book clients after asked is e =
+      pub ensured_partly : (M : Meanings) {T E : Type 0} (r : Result T E) (book : List Rule) (clients after : Clients) (asked : PropSet) → asked_in o.of sub words ≡ Some asked
+          → OnErr r (EnsuredInPart M book sub asked (configuration o clients) (configuration o' after))
+          → OnErr r (StepInPart M book (machine_with ns old clients) (ensure_values (ref_with name part) words) (machine_with ms new after))
+      ensured_partly M (Ok x) book clients after asked is e = tt
+      ensured_partly M (Err x) book clients after asked is e =
           inr (record { found = named_of o sub; named = at clients; asked = asked; is_asked = is; now = configuration o' after; ensured = e; becomes = becomes clients after })
 
       pub explain_step : {F E : Type 0} (view : F → ReplySeen) (r : Result F E) (book : List Rule) (clients : Clients) (asked : PropSet) → asked_in o.of sub words ≡ Some asked
@@ -265,11 +268,11 @@ module _ {ns ms : List (List ℕ)} {old new : List ℕ → Option State} {name :
       explain_step view (Err x) book clients asked is g same = tt
       explain_step view (Ok x) book clients asked is g same = is_asked (named_of o sub, at clients, asked, is, g, becomes_so clients (settled_object o) same)
 
-      pub explained_in_part : {T E : Type 0} (r : Result T E) (book : List Rule) (clients : Clients) (asked : PropSet) → asked_in o.of sub words ≡ Some asked → OnErr r ((o' ≡ o) ⊎ (o' ≡ settled_object o))
-          → OnErr r (StepInPart book (machine_with ns old clients) (explain_values (ref_with name part) words) (machine_with ms new clients))
-      explained_in_part (Ok x) book clients asked is e = tt
-      explained_in_part (Err x) book clients asked is (inl same) = inl (stays_with clients same)
-      explained_in_part (Err x) book clients asked is (inr same) =
+      pub explained_in_part : (M : Meanings) {T E : Type 0} (r : Result T E) (book : List Rule) (clients : Clients) (asked : PropSet) → asked_in o.of sub words ≡ Some asked → OnErr r ((o' ≡ o) ⊎ (o' ≡ settled_object o))
+          → OnErr r (StepInPart M book (machine_with ns old clients) (explain_values (ref_with name part) words) (machine_with ms new clients))
+      explained_in_part M (Ok x) book clients asked is e = tt
+      explained_in_part M (Err x) book clients asked is (inl same) = inl (stays_with clients same)
+      explained_in_part M (Err x) book clients asked is (inr same) =
           inr (record { found = named_of o sub; named = at clients; asked = asked; is_asked = is; becomes = becomes_so clients (settled_object o) same })
 
 -- ---- a label that is disabled
@@ -293,68 +296,74 @@ module _ {ns ms : List (List ℕ)} {old new : List ℕ → Option State} {name :
       is_made o word w.was free refl (record { names = w.names; object = w.is ∙ ap Some same; others = w.others; clients = refl; store = refl })
 
 -- how ensuring ended, of what was asked
-pub ended_so : (book : List Rule) (sub : Option ℕ) (e : Ending) (old new : Configuration) (p : PropId) (asked : PropSet) → asked ≡ only p → Ensured book sub asked e old new → Ensured book sub (only p) e old new
-ended_so book sub e old new p asked one so = subst (λ z. Ensured book sub z e old new) one so
+pub ended_so : {M : Meanings} (book : List Rule) (sub : Option ℕ) (e : Ending) (old new : Configuration) (p : PropId) (asked : PropSet) → asked ≡ only p → Ensured M book sub asked e old new → Ensured M book sub (only p) e old new
+ended_so {M = M} book sub e old new p asked one so = subst (λ z. Ensured M book sub z e old new) one so
 
 same_number : (n k : ℕ) → n ≡ k → eqb n k ≡ true
 same_number n k e = grind arith
 
-pub found_held : (book : List Rule) (sub : Option ℕ) (old new : Configuration) (asked : PropSet) (p : PropId) → asked ≡ only p → Ensured book sub asked ending.Found old new → is_held p (read_at sub new.object.held) ≡ true
-found_held book sub old new asked p one e =
+pub found_held : {M : Meanings} (book : List Rule) (sub : Option ℕ) (old new : Configuration) (asked : PropSet) (p : PropId) → asked ≡ only p → Ensured M book sub asked ending.Found old new → is_held p (read_at sub new.object.held) ≡ true
+found_held {M = M} book sub old new asked p one e =
     sym (names_held (read_at sub new.object.held) p) ∙ e.ends p (ap (λ z. has z p) one ∙ has-only p p ∙ same_number (number p) (number p) refl)
 
 -- what was ensured wholly was ensured in part
-pub whole_is_part : {T E : Type 0} (r : Result T E) (book : List Rule) (sub : Option ℕ) (asked : PropSet) (p : PropId) (ending : Ending) (old new : Configuration) → asked ≡ only p
-    → Ensured book sub asked ending old new → OnErr r (EnsuredInPart book sub (only p) old new)
-whole_is_part (Ok x) book sub asked p ending old new is e = tt
-whole_is_part (Err x) book sub asked p ending old new is e = subst (λ z. EnsuredInPart book sub z old new) is (at_rest, e.reaches)
+pub whole_is_part : {M : Meanings} {T E : Type 0} (r : Result T E) (book : List Rule) (sub : Option ℕ) (asked : PropSet) (p : PropId) (ending : Ending) (old new : Configuration) → asked ≡ only p
+    → Ensured M book sub asked ending old new → OnErr r (EnsuredInPart M book sub (only p) old new)
+whole_is_part {M = M} (Ok x) book sub asked p ending old new is e = tt
+whole_is_part {M = M} (Err x) book sub asked p ending old new is e = subst (λ z. EnsuredInPart M book sub z old new) is (at_rest, e.reaches)
 
-pub ensured_in_part : {T E : Type 0} (r : Result T E) (book : List Rule) (sub : Option ℕ) (asked : PropSet) (ending : Ending) (old new : Configuration) → Ensured book sub asked ending old new → OnErr r (EnsuredInPart book sub asked old new)
-ensured_in_part (Ok x) book sub asked ending old new e = tt
-ensured_in_part (Err x) book sub asked ending old new e = (at_rest, e.reaches)
+pub ensured_in_part : {M : Meanings} {T E : Type 0} (r : Result T E) (book : List Rule) (sub : Option ℕ) (asked : PropSet) (ending : Ending) (old new : Configuration) → Ensured M book sub asked ending old new → OnErr r (EnsuredInPart M book sub asked old new)
+ensured_in_part {M = M} (Ok x) book sub asked ending old new e = tt
+ensured_in_part {M = M} (Err x) book sub asked ending old new e = (at_rest, e.reaches)
 
-pub part_of : {T E : Type 0} (r : Result T E) (book : List Rule) (sub : Option ℕ) (asked : PropSet) (p : PropId) (old new : Configuration) → asked ≡ only p
-    → EnsuredInPart book sub asked old new → OnErr r (EnsuredInPart book sub (only p) old new)
-part_of (Ok x) book sub asked p old new is e = tt
-part_of (Err x) book sub asked p old new is e = subst (λ z. EnsuredInPart book sub z old new) is e
+pub part_of : {M : Meanings} {T E : Type 0} (r : Result T E) (book : List Rule) (sub : Option ℕ) (asked : PropSet) (p : PropId) (old new : Configuration) → asked ≡ only p
+    → EnsuredInPart M book sub asked old new → OnErr r (EnsuredInPart M book sub (only p) old new)
+part_of {M = M} (Ok x) book sub asked p old new is e = tt
+part_of {M = M} (Err x) book sub asked p old new is e = subst (λ z. EnsuredInPart M book sub z old new) is e
 
 -- ---- a step that answered, and one that did not
-pub stays_in_part : (book : List Rule) (old new : Machine) (command : Spoken) → Stays old new → StepInPart book old command new
-stays_in_part book old new (give_value ref text) s = inl s
-stays_in_part book old new (ensure_values ref words) s = inl s
-stays_in_part book old new (explain_values ref words) s = inl s
-stays_in_part book old new (tell_history name) s = s
-stays_in_part book old new blank s = s
-stays_in_part book old new (new_object ref text) s = s
-stays_in_part book old new (take_value ref text json) s = s
-stays_in_part book old new (look_up ref text) s = s
-stays_in_part book old new (show_object name) s = s
-stays_in_part book old new (tell_evidence name label) s = s
-stays_in_part book old new show_rules s = s
-stays_in_part book old new (disable_rule name label) s = s
-stays_in_part book old new (unload_client name) s = s
-stays_in_part book old new (copy_object name to) s = s
-stays_in_part book old new (drop_object name) s = s
-stays_in_part book old new (tell_origin ref text) s = s
-stays_in_part book old new (load_object name file) s = looks_of_stays old new s
-stays_in_part book old new (save_object name file) s = inl s
-stays_in_part book old new (make_object to shape) s = s
-stays_in_part book old new (build_object builder names to) s = (inl s, stays_part book (wanted_all (row_of builder).reads names) old new s)
+pub stays_in_part : (M : Meanings) (book : List Rule) (old new : Machine) (command : Spoken) → Stays old new → StepInPart M book old command new
+stays_in_part M book old new (give_value ref text) s = inl s
+stays_in_part M book old new (ensure_values ref words) s = inl s
+stays_in_part M book old new (explain_values ref words) s = inl s
+stays_in_part M book old new (tell_history name) s = s
+stays_in_part M book old new blank s = s
+stays_in_part M book old new (new_object ref text) s = s
+stays_in_part M book old new (take_value ref text json) s = s
+stays_in_part M book old new (look_up ref text) s = s
+stays_in_part M book old new (show_object name) s = s
+stays_in_part M book old new (tell_evidence name label) s = s
+stays_in_part M book old new show_rules s = s
+stays_in_part M book old new (disable_rule name label) s = s
+stays_in_part M book old new (unload_client name) s = s
+stays_in_part M book old new (copy_object name to) s = s
+stays_in_part M book old new (drop_object name) s = s
+stays_in_part M book old new (tell_origin ref text) s = s
+stays_in_part M book old new (load_object name file) s = looks_of_stays old new s
+stays_in_part M book old new (save_object name file) s = inl s
+stays_in_part M book old new (make_object to shape) s = s
+stays_in_part M book old new (build_object builder names to) s = (inl s, stays_part M book (wanted_all (row_of builder).reads names) old new s)
 
 -- a step in part is one of the command that is said
-pub part_as : {T E : Type 0} (r : Result T E) (book : List Rule) (said command : Spoken) (old new : Machine) → said ≡ command → OnErr r (StepInPart book old command new) → OnErr r (StepInPart book old said new)
-part_as (Ok x) book said command old new is h = tt
-part_as (Err x) book said command old new is h = subst (λ z. StepInPart book old z new) (sym is) h
+pub part_as : (M : Meanings) {T E : Type 0} (r : Result T E) (book : List Rule) (said command : Spoken) (old new : Machine) → said ≡ command → OnErr r (StepInPart M book old command new) → OnErr r (StepInPart M book old said new)
+part_as M (Ok x) book said command old new is h = tt
+part_as M (Err x) book said command old new is h = subst (λ z. StepInPart M book old z new) (sym is) h
 
-pub kept_if_ok : {E F : Type 0} (view : F → ReplySeen) (book : List Rule) (old new : Machine) (command : Spoken) (r : Result F E)
-    → IfOk r (λ x. Step book old command (view x) new) → OnOk r (AllKept old → AllKept new)
-kept_if_ok view book old new command (Ok x) s = steps_keep book old new command (view x) s
-kept_if_ok view book old new command (Err x) s = tt
+-- a step is one of the command that is said
+pub step_as : (M : Meanings) {F E : Type 0} (view : F → ReplySeen) (r : Result F E) (book : List Rule) (said command : Spoken) (old new : Machine) → said ≡ command
+    → IfOk r (λ x. Step M book old command (view x) new) → IfOk r (λ x. Step M book old said (view x) new)
+step_as M view (Ok x) book said command old new is h = subst (λ z. Step M book old z (view x) new) (sym is) h
+step_as M view (Err x) book said command old new is h = tt
 
-pub honest_step : {E F : Type 0} (view : F → ReplySeen) (book : List Rule) (old new : Machine) (command : Spoken) (r : Result F E)
-    → IfOk r (λ x. Step book old command (view x) new) → OnErr r (StepInPart book old command new) → AllKept old → AllHonest new
-honest_step view book old new command (Ok x) s p all = all_honest new (steps_keep book old new command (view x) s all)
-honest_step view book old new command (Err x) s p all = steps_in_part_keep book old new command p all
+pub kept_if_ok : (M : Meanings) {E F : Type 0} (view : F → ReplySeen) (book : List Rule) (old new : Machine) (command : Spoken) (r : Result F E)
+    → IfOk r (λ x. Step M book old command (view x) new) → OnOk r (AllKept old → AllKept new)
+kept_if_ok M view book old new command (Ok x) s = steps_keep book old new command (view x) (step_more unsaid M (narrows_unsaid M) book old new command (view x) s)
+kept_if_ok M view book old new command (Err x) s = tt
+
+pub honest_step : (M : Meanings) {E F : Type 0} (view : F → ReplySeen) (book : List Rule) (old new : Machine) (command : Spoken) (r : Result F E)
+    → IfOk r (λ x. Step M book old command (view x) new) → OnErr r (StepInPart M book old command new) → AllKept old → AllHonest new
+honest_step M view book old new command (Ok x) s p all = all_honest new (steps_keep book old new command (view x) (step_more unsaid M (narrows_unsaid M) book old new command (view x) s) all)
+honest_step M view book old new command (Err x) s p all = steps_in_part_keep book old new command (part_more unsaid M (narrows_unsaid M) book old command new p) all
 
 -- ---- what was ensured is told with its rounds
 -- what is so of a reply is so of the answer that is seen as it
@@ -362,10 +371,10 @@ pub if_seen : {F E : Type 0} (view : F → ReplySeen) (r : Result F E) (P : Repl
 if_seen view (Err x) P reply h is = tt
 if_seen view (Ok x) P reply h is = subst P (sym is) h
 
-pub gives_shown : {F E : Type 0} (view : F → ReplySeen) (r : Result F E) (book : List Rule) (old new : Configuration) (sub : Option ℕ) (name : List ℕ) (p : PropId) (of : ObjectType) (v : PropertyValue) (t : Rounds)
-    → of ≡ old.object.of → value_of p (read_at sub new.object.held) ≡ Some v → t ≡ named_rounds book new.object (later_rounds old.object new.object) → Ensured book sub (only p) ending.Found old new → IfOk r (λ x. view x ≡ shows name of p v t)
-    → IfOk r (λ x. Gives book old sub name p (view x) new)
-gives_shown view r book old new sub name p of v t type held rounds e said = if_seen view r (λ z. Gives book old sub name p z new) (shows name of p v t) (is_shown e refl type refl held rounds) said
+pub gives_shown : {M : Meanings} {F E : Type 0} (view : F → ReplySeen) (r : Result F E) (book : List Rule) (old new : Configuration) (sub : Option ℕ) (name : List ℕ) (p : PropId) (of : ObjectType) (v : PropertyValue) (t : Rounds)
+    → of ≡ old.object.of → value_of p (read_at sub new.object.held) ≡ Some v → t ≡ named_rounds book new.object (later_rounds old.object new.object) → Ensured M book sub (only p) ending.Found old new → IfOk r (λ x. view x ≡ shows name of p v t)
+    → IfOk r (λ x. Gives M book old sub name p (view x) new)
+gives_shown {M = M} view r book old new sub name p of v t type held rounds e said = if_seen view r (λ z. Gives M book old sub name p z new) (shows name of p v t) (is_shown e refl type refl held rounds) said
 
 pub history_told : {F E : Type 0} (view : F → ReplySeen) (r : Result F E) (book : List Rule) (old : Machine) (name : List ℕ) (o : State) → old.object name ≡ Some o → IfOk r (λ x. view x ≡ tells (named_rounds book o o.rounds) o.excluded)
     → IfOk r (λ x. HistoryStep book old name (view x) old)

@@ -1,4 +1,5 @@
 -- A step leaves the evidence of each excluded rule so that it holds of the object: by the definitions alone.
+use Rattle.pm_client.specs.Meanings.{unsaid}
 use Rattle.pm_vector.proofs.Lists.{Among, among_append}
 use Rattle.pm_command.specs.Commands.{Spoken}
 use Rattle.pm_files.specs.Files.{Mark, SavedFile, SavedProgram}
@@ -85,14 +86,14 @@ evidence book = record {
   program = λ o name all. stands_same book o (with_program o name) refl refl refl all;
   disabled = λ o label all. stands_same book o (with_disabled o label) refl refl refl all;
   settled = settled_stands book;
-  ensured = λ sub asked ending old new e all. ensuring_keeps_evidence book sub asked old new (at_rest, e.reaches) all;
-  in_part = λ sub asked old new part all. ensuring_keeps_evidence book sub asked old new part all;
+  ensured = λ sub asked ending old new e all. ensuring_keeps_evidence unsaid book sub asked old new (at_rest, e.reaches) all;
+  in_part = λ sub asked old new part all. ensuring_keeps_evidence unsaid book sub asked old new part all;
   made = λ f. stands_without book (object_of f) (λ x e i is. elim i [ ]);
   loaded = loaded_stands book;
 }
 
-pub steps_keep_evidence : (book : List Rule) (old new : Machine) (command : Spoken) (reply : ReplySeen) → Step book old command reply new → AllStand book old → AllStand book new
+pub steps_keep_evidence : (book : List Rule) (old new : Machine) (command : Spoken) (reply : ReplySeen) → Step unsaid book old command reply new → AllStand book old → AllStand book new
 steps_keep_evidence book old new command reply h all = record { each = steps.steps_keep (evidence book) old new command reply h all.each }
 
-pub steps_in_part_keep_evidence : (book : List Rule) (old new : Machine) (command : Spoken) → StepInPart book old command new → AllStand book old → AllStand book new
+pub steps_in_part_keep_evidence : (book : List Rule) (old new : Machine) (command : Spoken) → StepInPart unsaid book old command new → AllStand book old → AllStand book new
 steps_in_part_keep_evidence book old new command h all = record { each = steps.steps_in_part_keep (evidence book) old new command h all.each }

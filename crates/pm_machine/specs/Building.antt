@@ -1,4 +1,5 @@
 -- The commands that build objects: what each reads and ensures, and the object that it makes.
+use Rattle.pm_client.specs.Meanings.{Meanings}
 use Rattle.std.specs.Prelude.{ℕ, ◌≡◌, ◌≢◌, ◌⊎◌, ◌++◌, Bool, false, true, List, [], ◌∷◌, map, Option, Some, None}
 use Rattle.std.specs.List.{list_all}
 use Rattle.std.specs.Option.{is_some}
@@ -47,29 +48,29 @@ abbrev pub wanted_of : List ℕ → List PropId → List Wanted
 wanted_of name ps = map (λ p. record { name = name; property = p }) ps
 
 -- the object of the name ensures the property by these rounds, with this ending
-pub record EnsuresOne (book : List Rule) (w : Wanted) (ending : Ending) (rounds : List RoundSeen)
+pub record EnsuresOne (m : Meanings) (book : List Rule) (w : Wanted) (ending : Ending) (rounds : List RoundSeen)
     (old new : Machine) : Type 0 where
   pub object : State
   pub named : old.object w.name ≡ Some object
   pub now : Configuration
-  pub ensured : Ensured book None (only w.property) ending (configuration object old.clients) now
+  pub ensured : Ensured m book None (only w.property) ending (configuration object old.clients) now
   pub rounds_are : rounds ≡ later_rounds object now.object
   pub becomes : Becomes w.name now old new
 
 -- all of these are ensured, one after another, by these rounds
-abbrev pub EnsuresAll : List Rule → List Wanted → List RoundSeen → Machine → Machine → Type 0
-EnsuresAll book [] rounds old new = (rounds ≡ []) × Stays old new
-EnsuresAll book (w ∷ ws) rounds old new = (mid : Machine) × (first : List RoundSeen)
+abbrev pub EnsuresAll : Meanings → List Rule → List Wanted → List RoundSeen → Machine → Machine → Type 0
+EnsuresAll m book [] rounds old new = (rounds ≡ []) × Stays old new
+EnsuresAll m book (w ∷ ws) rounds old new = (mid : Machine) × (first : List RoundSeen)
     × (more : List RoundSeen)
-    × EnsuresOne book w ending.Found first old mid × EnsuresAll book ws more mid new
+    × EnsuresOne m book w ending.Found first old mid × EnsuresAll m book ws more mid new
     × (rounds ≡ first ++ more)
 
 -- some first of these are ensured, and the next one ends so, which is not found
-abbrev pub EndsAt : List Rule → List Wanted → Ending → List RoundSeen → Machine → Machine → Type 0
-EndsAt book [] e rounds old new = ⊥
-EndsAt book (w ∷ ws) e rounds old new = ((e ≢ ending.Found) × EnsuresOne book w e rounds old new)
+abbrev pub EndsAt : Meanings → List Rule → List Wanted → Ending → List RoundSeen → Machine → Machine → Type 0
+EndsAt m book [] e rounds old new = ⊥
+EndsAt m book (w ∷ ws) e rounds old new = ((e ≢ ending.Found) × EnsuresOne m book w e rounds old new)
     ⊎ ((mid : Machine) × (first : List RoundSeen) × (more : List RoundSeen)
-    × EnsuresOne book w ending.Found first old mid × EndsAt book ws e more mid new
+    × EnsuresOne m book w ending.Found first old mid × EndsAt m book ws e more mid new
     × (rounds ≡ first ++ more))
 
 -- these rounds are of no program
@@ -104,20 +105,20 @@ wanted_all ps (n ∷ []) = wanted_of n ps
 wanted_all ps (n ∷ k ∷ ns) = wanted_of n ps ++ wanted_all ps (k ∷ ns)
 
 -- what is read of the objects, which are of the type, is ensured by these rounds; they are then these
-pub record HasEnsured (book : List Rule) (b : Builder) (names : List (List ℕ)) (to : List ℕ)
+pub record HasEnsured (m : Meanings) (book : List Rule) (b : Builder) (names : List (List ℕ)) (to : List ℕ)
     (rounds : List RoundSeen) (os : List State) (old mid : Machine) : Type 0 where
   pub free : IsNewName (shelf old) to
   pub types : are_of (row_of b).of (shelf old) names ≡ true
-  pub ensured : EnsuresAll book (wanted_all (row_of b).reads names) rounds old mid
+  pub ensured : EnsuresAll m book (wanted_all (row_of b).reads names) rounds old mid
   pub objects : ObjectsAre mid names os
 
 -- what is read of them is not found
-pub record DoesNotRead (book : List Rule) (b : Builder) (names : List (List ℕ)) (to : List ℕ) (e : Ending)
-    (more : Remarks) (old new : Machine) : Type 0 where
+pub record DoesNotRead (m : Meanings) (book : List Rule) (b : Builder) (names : List (List ℕ)) (to : List ℕ)
+    (e : Ending) (more : Remarks) (old new : Machine) : Type 0 where
   pub free : IsNewName (shelf old) to
   pub types : are_of (row_of b).of (shelf old) names ≡ true
   pub rounds : List RoundSeen
-  pub ends : EndsAt book (wanted_all (row_of b).reads names) e rounds old new
+  pub ends : EndsAt m book (wanted_all (row_of b).reads names) e rounds old new
   pub told : more ≡ rounds_told book rounds
 
 -- why a command of this row is refused before it begins, first of these
@@ -131,39 +132,39 @@ pub data BuildRefusal (s : Shelf) (b : Builder) (names : List (List ℕ)) (to : 
 
 -- `WORD NAME NEW`, `WORD NAME NAME NEW`: the ways in which it may end; what was ensured stays also where the object
 -- is not made
-pub data BuildStep (book : List Rule) (b : Builder) (old : Machine) (names : List (List ℕ)) (to : List ℕ)
-    : ReplySeen → Machine → Type 0 where
+pub data BuildStep (m : Meanings) (book : List Rule) (b : Builder) (old : Machine) (names : List (List ℕ))
+    (to : List ℕ) : ReplySeen → Machine → Type 0 where
   is_refused : {new : Machine} {why : Refusal} → BuildRefusal (shelf old) b names to why → Stays old new
-      → BuildStep book b old names to (refused why nothing) new
-  no_chain : {new : Machine} {more : Remarks} → DoesNotRead book b names to ending.NoChain more old new
-      → BuildStep book b old names to (refused NoChain more) new
-  is_crowded : {new : Machine} {more : Remarks} → DoesNotRead book b names to ending.Crowded more old new
-      → BuildStep book b old names to (refused Crowded more) new
+      → BuildStep m book b old names to (refused why nothing) new
+  no_chain : {new : Machine} {more : Remarks} → DoesNotRead m book b names to ending.NoChain more old new
+      → BuildStep m book b old names to (refused NoChain more) new
+  is_crowded : {new : Machine} {more : Remarks} → DoesNotRead m book b names to ending.Crowded more old new
+      → BuildStep m book b old names to (refused Crowded more) new
   not_fit : {new : Machine} {more : Remarks} {c : Condition} (rounds : List RoundSeen) (os : List State)
-      → HasEnsured book b names to rounds os old new → c ≢ condition.OfType → Unfit b os c
-      → more ≡ rounds_told book rounds → BuildStep book b old names to (refused (NotFit c) more) new
+      → HasEnsured m book b names to rounds os old new → c ≢ condition.OfType → Unfit b os c
+      → more ≡ rounds_told book rounds → BuildStep m book b old names to (refused (NotFit c) more) new
   not_made : {new : Machine} {more : Remarks} {why : NotMadeWhy} (rounds : List RoundSeen) (os : List State)
-      → HasEnsured book b names to rounds os old new → Unmade b os why
-      → more ≡ rounds_told book rounds → BuildStep book b old names to (refused (NotMade why) more) new
+      → HasEnsured m book b names to rounds os old new → Unmade b os why
+      → more ≡ rounds_told book rounds → BuildStep m book b old names to (refused (NotMade why) more) new
   is_made : {new mid : Machine} {t : Rounds} (rounds : List RoundSeen) (os : List State) (f : SavedFile)
-      → HasEnsured book b names to rounds os old mid → Makes b os f → Gains to (object_of f) mid new
-      → t ≡ told_rounds book rounds → BuildStep book b old names to (done t) new
+      → HasEnsured m book b names to rounds os old mid → Makes b os f → Gains to (object_of f) mid new
+      → t ≡ told_rounds book rounds → BuildStep m book b old names to (done t) new
 
 -- ---- want of memory
 -- the object of the name is ensured the property in part
-pub record EnsuresOneInPart (book : List Rule) (w : Wanted) (old new : Machine) : Type 0 where
+pub record EnsuresOneInPart (m : Meanings) (book : List Rule) (w : Wanted) (old new : Machine) : Type 0 where
   pub object : State
   pub named : old.object w.name ≡ Some object
   pub now : Configuration
-  pub ensured : EnsuredInPart book None (only w.property) (configuration object old.clients) now
+  pub ensured : EnsuredInPart m book None (only w.property) (configuration object old.clients) now
   pub becomes : Becomes w.name now old new
 
 -- some first of these are ensured, and the next one in part or not at all
-abbrev pub EnsuresInPart : List Rule → List Wanted → Machine → Machine → Type 0
-EnsuresInPart book [] old new = Stays old new
-EnsuresInPart book (w ∷ ws) old new = Stays old new ⊎ (EnsuresOneInPart book w old new
-    ⊎ ((mid : Machine) × (rounds : List RoundSeen) × EnsuresOne book w ending.Found rounds old mid
-    × EnsuresInPart book ws mid new))
+abbrev pub EnsuresInPart : Meanings → List Rule → List Wanted → Machine → Machine → Type 0
+EnsuresInPart m book [] old new = Stays old new
+EnsuresInPart m book (w ∷ ws) old new = Stays old new ⊎ (EnsuresOneInPart m book w old new
+    ⊎ ((mid : Machine) × (rounds : List RoundSeen) × EnsuresOne m book w ending.Found rounds old mid
+    × EnsuresInPart m book ws mid new))
 
 -- nothing changed, or the new name was free and the objects are of the row's type: a command that would be refused
 -- for a name or a type begins no round
@@ -172,6 +173,6 @@ MayHaveBegun b names to old new = Stays old new
     ⊎ (IsNewName (shelf old) to × (are_of (row_of b).of (shelf old) names ≡ true))
 
 -- a command of this row in part: some first of what it reads is ensured, where it may begin at all
-abbrev pub BuiltInPart : List Rule → Builder → List (List ℕ) → List ℕ → Machine → Machine → Type 0
-BuiltInPart book b names to old new = MayHaveBegun b names to old new
-    × EnsuresInPart book (wanted_all (row_of b).reads names) old new
+abbrev pub BuiltInPart : Meanings → List Rule → Builder → List (List ℕ) → List ℕ → Machine → Machine → Type 0
+BuiltInPart m book b names to old new = MayHaveBegun b names to old new
+    × EnsuresInPart m book (wanted_all (row_of b).reads names) old new

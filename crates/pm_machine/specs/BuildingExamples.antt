@@ -1,5 +1,6 @@
 -- The commands that build objects read on small machines: what they make and when, what they tell, and what they do
 -- not.
+use Rattle.pm_client.specs.Meanings.{unsaid}
 use Rattle.std.specs.Prelude.{ℕ, ◌≡◌, ◌≢◌, false, true, None, Some, List, [], ◌∷◌, codes, length}
 use Rattle.pm_build.specs.Conditions.{polar_refusal, product_refusal, pyramid_refusal, sum_refusal}
 use Rattle.pm_vector.specs.Rows.{Row}
@@ -105,27 +106,27 @@ pub record WantedIsEnsured : Type 0 where
   pub for_refine : (row_of (Two Refine)).reads ≡ Vertices ∷ LinealitySpace ∷ MaximalCones ∷ []
   -- nothing to ensure changes nothing, by no rounds
   pub nothing_wanted : (book : List Rule) (old new : Machine) (rounds : List RoundSeen)
-      → EnsuresAll book [] rounds old new → Stays old new
+      → EnsuresAll unsaid book [] rounds old new → Stays old new
   pub without_rounds : (book : List Rule) (old new : Machine) (rounds : List RoundSeen)
-      → EnsuresAll book [] rounds old new → rounds ≡ []
+      → EnsuresAll unsaid book [] rounds old new → rounds ≡ []
   -- what is not there is not ensured
   pub of_no_object : (book : List Rule) (old new : Machine) (w : Wanted) (rounds : List RoundSeen)
-      → old.object w.name ≡ None → EnsuresAll book (w ∷ []) rounds old new → ⊥
+      → old.object w.name ≡ None → EnsuresAll unsaid book (w ∷ []) rounds old new → ⊥
   -- where nothing is left, and where all is found, nothing ends
   pub nothing_ends : (book : List Rule) (old new : Machine) (e : Ending) (rounds : List RoundSeen)
-      → EndsAt book [] e rounds old new → ⊥
+      → EndsAt unsaid book [] e rounds old new → ⊥
   pub found_is_no_end : (book : List Rule) (old new : Machine) (w : Wanted) (rounds : List RoundSeen)
-      → EndsAt book (w ∷ []) ending.Found rounds old new → ⊥
+      → EndsAt unsaid book (w ∷ []) ending.Found rounds old new → ⊥
   -- in part: nothing at all, and nothing of no object
   pub not_begun : (book : List Rule) (old : Machine) (w : Wanted) (ws : List Wanted) → Stays old old
-      → EnsuresInPart book (w ∷ ws) old old
+      → EnsuresInPart unsaid book (w ∷ ws) old old
   -- of a name that is taken, and for an object of another type, nothing begins
   pub none_for_a_taken_name : (b : Builder) (old new : Machine) (names : List (List ℕ)) (to : List ℕ)
       → old.object to ≢ None → MayHaveBegun b names to old new → Stays old new
   pub none_for_a_cone : (b : Builder) (old new : Machine) (name to : List ℕ) → (row_of b).of ≡ Polytope
       → old.object name ≡ Some (empty_object Cone) → MayHaveBegun b (name ∷ []) to old new → Stays old new
   pub in_part_of_no_object : (book : List Rule) (old new : Machine) (w : Wanted) → old.object w.name ≡ None
-      → EnsuresInPart book (w ∷ []) old new → Stays old new
+      → EnsuresInPart unsaid book (w ∷ []) old new → Stays old new
 
 -- the objects that a command names
 pub record OperandsAreRead : Type 0 where
@@ -210,63 +211,63 @@ pub record ObjectsAreBuilt : Type 0 where
   pub product_is_made : (a b : State) (why : NotMadeWhy) → Unmade (Two Product) (a ∷ b ∷ []) why → ⊥
   -- the new object is that of what was read, and the rounds behind it are told
   pub is_built : (book : List Rule) (b : Builder) (old new : Machine) (names : List (List ℕ)) (to : List ℕ)
-      (t : Rounds) → BuildStep book b old names to (done t) new
+      (t : Rounds) → BuildStep unsaid book b old names to (done t) new
       → (os : List State) × (f : SavedFile) × Makes b os f × (new.object to ≡ Some (object_of f))
   pub rounds_are_told : (book : List Rule) (b : Builder) (old new : Machine) (names : List (List ℕ))
-      (to : List ℕ) (t : Rounds) → BuildStep book b old names to (done t) new
+      (to : List ℕ) (t : Rounds) → BuildStep unsaid book b old names to (done t) new
       → (rounds : List RoundSeen) × (t ≡ told_rounds book rounds)
   -- of no object, under no name that is held, and of no cone
   pub of_nothing : (book : List Rule) (b : Builder) (old new : Machine) (name to : List ℕ) (t : Rounds)
-      → old.object name ≡ None → BuildStep book b old (name ∷ []) to (done t) new → ⊥
+      → old.object name ≡ None → BuildStep unsaid book b old (name ∷ []) to (done t) new → ⊥
   pub not_over : (book : List Rule) (b : Builder) (old new : Machine) (names : List (List ℕ)) (to : List ℕ)
-      (t : Rounds) → old.object to ≢ None → BuildStep book b old names to (done t) new → ⊥
+      (t : Rounds) → old.object to ≢ None → BuildStep unsaid book b old names to (done t) new → ⊥
   pub of_no_cone : (book : List Rule) (b : Builder) (old new : Machine) (name to : List ℕ) (t : Rounds)
       → (row_of b).of ≡ Polytope → old.object name ≡ Some (empty_object Cone)
-      → BuildStep book b old (name ∷ []) to (done t) new → ⊥
+      → BuildStep unsaid book b old (name ∷ []) to (done t) new → ⊥
   pub cone_is_refused : (book : List Rule) (b : Builder) (old : Machine) (name to : List ℕ)
       → (row_of b).of ≡ Polytope → old.object name ≡ Some (empty_object Cone) → IsNewName (shelf old) to
       → Stays old old
-      → BuildStep book b old (name ∷ []) to (refused (NotFit condition.OfType) nothing) old
+      → BuildStep unsaid book b old (name ∷ []) to (refused (NotFit condition.OfType) nothing) old
   pub polytope_is_not : (book : List Rule) (b : Builder) (old new : Machine) (name to : List ℕ)
       → (row_of b).of ≡ Polytope → old.object name ≡ Some (empty_object Polytope)
-      → BuildStep book b old (name ∷ []) to (refused (NotFit condition.OfType) nothing) new → ⊥
+      → BuildStep unsaid book b old (name ∷ []) to (refused (NotFit condition.OfType) nothing) new → ⊥
   pub unknown_first : (book : List Rule) (b : Builder) (old : Machine) (name to : List ℕ)
       → old.object name ≡ None → Stays old old
-      → BuildStep book b old (name ∷ []) to (refused UnknownName nothing) old
+      → BuildStep unsaid book b old (name ∷ []) to (refused UnknownName nothing) old
   -- the name is looked at before a round
   pub taken_before_rounds : (book : List Rule) (b : Builder) (old new : Machine) (names : List (List ℕ))
       (to : List ℕ) (more : Remarks) → old.object to ≢ None
-      → BuildStep book b old names to (refused NoChain more) new → ⊥
+      → BuildStep unsaid book b old names to (refused NoChain more) new → ⊥
   pub type_before_rounds : (book : List Rule) (b : Builder) (old new : Machine) (name to : List ℕ)
       (more : Remarks) → (row_of b).of ≡ Polytope → old.object name ≡ Some (empty_object Cone)
-      → BuildStep book b old (name ∷ []) to (refused Crowded more) new → ⊥
+      → BuildStep unsaid book b old (name ∷ []) to (refused Crowded more) new → ⊥
   -- a condition that is named failed of what was read, which stays
   pub is_not_fit : (book : List Rule) (b : Builder) (old new : Machine) (names : List (List ℕ)) (to : List ℕ)
-      (more : Remarks) → BuildStep book b old names to (refused (NotFit condition.Centered) more) new
+      (more : Remarks) → BuildStep unsaid book b old names to (refused (NotFit condition.Centered) more) new
       → (os : List State) × ObjectsAre new names os × Unfit b os condition.Centered
   pub is_not_made : (book : List Rule) (b : Builder) (old new : Machine) (names : List (List ℕ))
       (to : List ℕ) (why : NotMadeWhy) (more : Remarks)
-      → BuildStep book b old names to (refused (NotMade why) more) new
+      → BuildStep unsaid book b old names to (refused (NotMade why) more) new
       → (os : List State) × ObjectsAre new names os × Unmade b os why
   pub not_made_tells : (book : List Rule) (b : Builder) (old new : Machine) (names : List (List ℕ))
       (to : List ℕ) (why : NotMadeWhy) (more : Remarks)
-      → BuildStep book b old names to (refused (NotMade why) more) new
+      → BuildStep unsaid book b old names to (refused (NotMade why) more) new
       → (rounds : List RoundSeen) × (more ≡ rounds_told book rounds)
   pub no_chain_tells : (book : List Rule) (b : Builder) (old new : Machine) (names : List (List ℕ))
-      (to : List ℕ) (more : Remarks) → BuildStep book b old names to (refused NoChain more) new
+      (to : List ℕ) (more : Remarks) → BuildStep unsaid book b old names to (refused NoChain more) new
       → (rounds : List RoundSeen) × (more ≡ rounds_told book rounds)
   pub crowded_tells : (book : List Rule) (b : Builder) (old new : Machine) (names : List (List ℕ))
-      (to : List ℕ) (more : Remarks) → BuildStep book b old names to (refused Crowded more) new
+      (to : List ℕ) (more : Remarks) → BuildStep unsaid book b old names to (refused Crowded more) new
       → (rounds : List RoundSeen) × (more ≡ rounds_told book rounds)
   pub no_other : (book : List Rule) (b : Builder) (old new : Machine) (names : List (List ℕ)) (to : List ℕ)
-      → BuildStep book b old names to undef new → ⊥
+      → BuildStep unsaid book b old names to undef new → ⊥
   -- of two: none where the second is not there or is a cone
   pub without_second : (book : List Rule) (b : Builder) (old new : Machine) (first second to : List ℕ)
-      (t : Rounds) → old.object second ≡ None → BuildStep book b old (first ∷ second ∷ []) to (done t) new
+      (t : Rounds) → old.object second ≡ None → BuildStep unsaid book b old (first ∷ second ∷ []) to (done t) new
       → ⊥
   pub second_is_unknown : (book : List Rule) (b : Builder) (old : Machine) (first second to : List ℕ)
       → old.object second ≡ None → Stays old old
-      → BuildStep book b old (first ∷ second ∷ []) to (refused UnknownName nothing) old
+      → BuildStep unsaid book b old (first ∷ second ∷ []) to (refused UnknownName nothing) old
   pub second_is_no_cone : (book : List Rule) (b : Builder) (old new : Machine) (first second to : List ℕ)
       (t : Rounds) → (row_of b).of ≡ Polytope → old.object second ≡ Some (empty_object Cone)
-      → BuildStep book b old (first ∷ second ∷ []) to (done t) new → ⊥
+      → BuildStep unsaid book b old (first ∷ second ∷ []) to (done t) new → ⊥

@@ -1,4 +1,5 @@
 -- What the functions of building do, each in the terms of the commands.
+use Rattle.pm_client.specs.Meanings.{Meanings}
 use Rattle.std.specs.Prelude.{ℕ, ◌≡◌, ◌++◌, [], false, true, IfErr, IfOk, List, Option, None, Result, Ok, Err, Some}
 use Rattle.std.specs.List.{AllByRecursion}
 use Rattle.pm_files.specs.Files.{SavedFile}
@@ -35,22 +36,22 @@ MakesBuilt to built t reply old new = ⊥
 
 -- ---- ensuring
 -- all of these are ensured, or one of them ends so
-abbrev pub EnsuresTo : List Rule → List Wanted → Ending → List RoundSeen → Machine → Machine → Type 0
-EnsuresTo book ws ending.Found rounds old new = EnsuresAll book ws rounds old new
-EnsuresTo book ws e rounds old new = EndsAt book ws e rounds old new
+abbrev pub EnsuresTo : Meanings → List Rule → List Wanted → Ending → List RoundSeen → Machine → Machine → Type 0
+EnsuresTo m book ws ending.Found rounds old new = EnsuresAll m book ws rounds old new
+EnsuresTo m book ws e rounds old new = EndsAt m book ws e rounds old new
 
 -- the property is ensured with this ending, and its rounds are put behind those before
-pub record TellsOne (book : List Rule) (w : Wanted) (e : Ending) (before after : List RoundSeen)
+pub record TellsOne (m : Meanings) (book : List Rule) (w : Wanted) (e : Ending) (before after : List RoundSeen)
     (old new : Machine) : Type 0 where
   pub rounds : List RoundSeen
-  pub ensured : EnsuresOne book w e rounds old new
+  pub ensured : EnsuresOne m book w e rounds old new
   pub told : after ≡ before ++ rounds
 
 -- so are all of these, or one of them ends so
-pub record TellsAll (book : List Rule) (ws : List Wanted) (e : Ending) (before after : List RoundSeen)
+pub record TellsAll (m : Meanings) (book : List Rule) (ws : List Wanted) (e : Ending) (before after : List RoundSeen)
     (old new : Machine) : Type 0 where
   pub rounds : List RoundSeen
-  pub ensured : EnsuresTo book ws e rounds old new
+  pub ensured : EnsuresTo m book ws e rounds old new
   pub told : after ≡ before ++ rounds
 
 -- ---- building

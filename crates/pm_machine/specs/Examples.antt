@@ -1,4 +1,5 @@
 -- The definitions of the commands read on small things: what holds of them and what does not.
+use Rattle.pm_client.specs.Meanings.{unsaid}
 use Rattle.pm_telling.specs.Telling.{names_told}
 use Rattle.std.specs.Prelude.{ℕ, ◌≡◌, ◌≢◌, ◌++◌, true, false, Option, Some, None, List, [], String, codes, length, string_bytes, ◌∷◌}
 use Rattle.pm_object_type.specs.declared.object_type.ObjectType.{ObjectType}
@@ -97,17 +98,17 @@ pub record AnswersAreRead : Type 0 where
   pub settled_holds : (settled_object (empty_object Polytope)).held ≡ one_column ∷ []
   -- the rounds beside a refusal are told of `ensure` always, of `give` only where they are traced
   pub ensure_tells : (book : List Rule) (old new : Configuration) (sub : Option ℕ) (asked : PropSet)
-      (more : Remarks) → Ensures book old sub asked (refused NoChain more) new
+      (more : Remarks) → Ensures unsaid book old sub asked (refused NoChain more) new
       → more ≡ remarks true (later_rounds old.object new.object) [] None (names_told book new.object)
   pub give_tells : (book : List Rule) (old new : Configuration) (sub : Option ℕ) (name : List ℕ) (p : PropId)
-      (more : Remarks) → Gives book old sub name p (refused NoChain more) new
+      (more : Remarks) → Gives unsaid book old sub name p (refused NoChain more) new
       → more ≡ remarks false (later_rounds old.object new.object) [] None (names_told book new.object)
   pub crowded_tells : (book : List Rule) (old new : Configuration) (sub : Option ℕ) (asked : PropSet)
-      (more : Remarks) → Ensures book old sub asked (refused Crowded more) new
+      (more : Remarks) → Ensures unsaid book old sub asked (refused Crowded more) new
       → more ≡ remarks true (later_rounds old.object new.object) [] None (names_told book new.object)
   -- no other refusal comes of asking
   pub no_other : (book : List Rule) (old new : Configuration) (sub : Option ℕ) (asked : PropSet)
-      → Ensures book old sub asked (refused UnknownName nothing) new → ⊥
+      → Ensures unsaid book old sub asked (refused UnknownName nothing) new → ⊥
   pub no_other_reason : (book : List Rule) (clients : Clients) (o : State) (sub : Option ℕ) (asked : PropSet)
       → Explains book clients o sub asked (refused UnknownName nothing) → ⊥
   -- the labels are those of the book, and the programs those of the object

@@ -10,3 +10,4 @@ pub mod RefusalExamples
 pub mod BuildingExamples
 pub mod Shown
 pub mod Run
+pub mod Widening

@@ -1,4 +1,5 @@
 -- What stands where memory ran out in a command: a first part of its events, maybe none or all.
+use Rattle.pm_client.specs.Meanings.{Meanings}
 use Rattle.std.specs.Prelude.{◌≡◌, ◌≤◌, ◌⊎◌, List, ℕ, Some, IfSome, length}
 use Rattle.pm_rounds.specs.Events.{Configuration, EnsuredInPart, configuration}
 use Rattle.pm_machine.specs.Machines.{Becomes, Machine, Stays, shelf}
@@ -15,25 +16,25 @@ use Rattle.pm_props.specs.declared.set.PropSet.{PropSet}
 use Rattle.pm_limits.specs.Limits.{most_file_bytes}
 
 -- what REF names is ensured the property in part
-pub record GaveInPart (book : List Rule) (old : Machine) (ref : RefSeen) (text : List ℕ) (new : Machine)
-    : Type 0 where
+pub record GaveInPart (m : Meanings) (book : List Rule) (old : Machine) (ref : RefSeen) (text : List ℕ)
+    (new : Machine) : Type 0 where
   pub found : Named
   pub named : named_at (shelf old) ref ≡ Some found
   pub property : PropId
   pub is_property : property_at found text ≡ Some property
   pub now : Configuration
-  pub ensured : EnsuredInPart book found.sub (only property) (configuration found.object old.clients) now
+  pub ensured : EnsuredInPart m book found.sub (only property) (configuration found.object old.clients) now
   pub becomes : Becomes ref.name now old new
 
 -- what REF names is ensured what the words ask for, in part
-pub record EnsuredPartly (book : List Rule) (old : Machine) (ref : RefSeen) (words : List (List ℕ))
+pub record EnsuredPartly (m : Meanings) (book : List Rule) (old : Machine) (ref : RefSeen) (words : List (List ℕ))
     (new : Machine) : Type 0 where
   pub found : Named
   pub named : named_at (shelf old) ref ≡ Some found
   pub asked : PropSet
   pub is_asked : asked_of found words ≡ Some asked
   pub now : Configuration
-  pub ensured : EnsuredInPart book found.sub asked (configuration found.object old.clients) now
+  pub ensured : EnsuredInPart m book found.sub asked (configuration found.object old.clients) now
   pub becomes : Becomes ref.name now old new
 
 -- the object that REF names is settled, for words that ask for something
@@ -51,14 +52,14 @@ SavedInPart book old name file new = Stays old new
     × Puts (IsPutInPart file (bytes_of book o)) old new)
 
 -- of the events of the command first ones occurred: those of a command that ensures nothing are all or none
-abbrev pub StepInPart : List Rule → Machine → Spoken → Machine → Type 0
-StepInPart book old (give_value ref text) new = Stays old new ⊎ GaveInPart book old ref text new
-StepInPart book old (ensure_values ref words) new = Stays old new ⊎ EnsuredPartly book old ref words new
-StepInPart book old (explain_values ref words) new = Stays old new ⊎ IsSettled old ref words new
-StepInPart book old (load_object name file) new = Looks old new
-StepInPart book old (save_object name file) new = SavedInPart book old name file new
-StepInPart book old (build_object builder names to) new = BuiltInPart book builder names to old new
-StepInPart book old command new = Stays old new
+abbrev pub StepInPart : Meanings → List Rule → Machine → Spoken → Machine → Type 0
+StepInPart m book old (give_value ref text) new = Stays old new ⊎ GaveInPart m book old ref text new
+StepInPart m book old (ensure_values ref words) new = Stays old new ⊎ EnsuredPartly m book old ref words new
+StepInPart m book old (explain_values ref words) new = Stays old new ⊎ IsSettled old ref words new
+StepInPart m book old (load_object name file) new = Looks old new
+StepInPart m book old (save_object name file) new = SavedInPart book old name file new
+StepInPart m book old (build_object builder names to) new = BuiltInPart m book builder names to old new
+StepInPart m book old command new = Stays old new
 
 -- each object is honest
 pub record AllHonest (m : Machine) : Type 0 where

@@ -1,5 +1,6 @@
 -- A run of the machine over the lines of a script.
 use Rattle.std.specs.Prelude.{ℕ, ◌≡◌, ◌||◌, Bool, false, if◌then◌else◌, Option, Some, None, List, [], ◌∷◌, ◌++◌}
+use Rattle.pm_client.specs.Meanings.{Meanings}
 use Rattle.pm_client.specs.Starts.{Clients}
 use Rattle.pm_machine.specs.Laws.{AllStand}
 use Rattle.pm_machine.specs.Machines.{Files, Machine}
@@ -24,25 +25,25 @@ refusal_of line = if is_too_long line then LineTooLong else BadCommand
 
 -- a line that speaks no command is refused, for this reason, a blank one has no reply, and both change nothing; each
 -- other one is a step
-abbrev pub AnswersTo : List Rule → Machine → Refusal → Option Spoken → Option ReplySeen → Machine → Type 0
-AnswersTo book old why (Some command) (Some reply) new = Step book old command reply new
-AnswersTo book old why (Some blank) None new = new ≡ old
-AnswersTo book old why (Some command) None new = ⊥
-AnswersTo book old why None (Some reply) new = (reply ≡ refused why nothing) × (new ≡ old)
-AnswersTo book old why None None new = ⊥
+abbrev pub AnswersTo : Meanings → List Rule → Machine → Refusal → Option Spoken → Option ReplySeen → Machine → Type 0
+AnswersTo m book old why (Some command) (Some reply) new = Step m book old command reply new
+AnswersTo m book old why (Some blank) None new = new ≡ old
+AnswersTo m book old why (Some command) None new = ⊥
+AnswersTo m book old why None (Some reply) new = (reply ≡ refused why nothing) × (new ≡ old)
+AnswersTo m book old why None None new = ⊥
 
 -- from the machine old the reply to the line may be this one, and it goes on as new
-abbrev pub Answers : List Rule → Machine → Line → Option ReplySeen → Machine → Type 0
-Answers book old line reply new = AnswersTo book old (refusal_of line) (command_at line) reply new
+abbrev pub Answers : Meanings → List Rule → Machine → Line → Option ReplySeen → Machine → Type 0
+Answers m book old line reply new = AnswersTo m book old (refusal_of line) (command_at line) reply new
 
 -- it answers so to the lines, one after another, each value that it shows is right when it is shown, and after each
 -- line every object is honest, and each rule that was excluded with evidence has evidence that holds now
-abbrev pub Run : List Rule → Machine → List Line → List (Option ReplySeen) → Machine → Type 0
-Run book old [] [] new = new ≡ old
-Run book old (line ∷ lines) (reply ∷ replies) new = (mid : Machine) × Answers book old line reply mid
-    × Shows reply mid × AllHonest mid × AllStand book mid × Run book mid lines replies new
-Run book old [] (reply ∷ replies) new = ⊥
-Run book old (line ∷ lines) [] new = ⊥
+abbrev pub Run : Meanings → List Rule → Machine → List Line → List (Option ReplySeen) → Machine → Type 0
+Run m book old [] [] new = new ≡ old
+Run m book old (line ∷ lines) (reply ∷ replies) new = (mid : Machine) × Answers m book old line reply mid
+    × Shows reply mid × AllHonest mid × AllStand book mid × Run m book mid lines replies new
+Run m book old [] (reply ∷ replies) new = ⊥
+Run m book old (line ∷ lines) [] new = ⊥
 
 -- the text of a reply, with its rounds where they are traced
 abbrev pub text_of_reply : Bool → ReplySeen → List ℕ

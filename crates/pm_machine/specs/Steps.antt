@@ -1,5 +1,6 @@
 -- The machine: what each command may answer, and what it changes. Each command has a type of the ways in which it may
 -- end: each way has its reply and says exactly when it comes, and the ways of one command exclude each other.
+use Rattle.pm_client.specs.Meanings.{Meanings}
 use Rattle.std.specs.Prelude.{ℕ, ◌≡◌, ◌≢◌, Bool, true, false, ◌++◌, ◌<◌, ◌≤◌, List, [], ◌∷◌, length, Option, Some, None, option_and_then, option_map, IfSome, if◌then◌else◌, codes, string_bytes}
 use Rattle.std.specs.List.{list_any}
 use Rattle.std.specs.Str.{bytes_eq}
@@ -202,34 +203,34 @@ rounds_beside always book old new = remarks always (later_rounds old new) [] Non
 
 -- the object ensures the property p, of this program if one is asked, and its value is shown; or no chain leads
 -- there, or too many sets of names cost less
-pub data Gives (book : List Rule) (old : Configuration) (sub : Option ℕ) (name : List ℕ) (p : PropId)
+pub data Gives (m : Meanings) (book : List Rule) (old : Configuration) (sub : Option ℕ) (name : List ℕ) (p : PropId)
     : ReplySeen → Configuration → Type 0 where
-  no_chain : {new : Configuration} {more : Remarks} → Ensured book sub (only p) ending.NoChain old new
+  no_chain : {new : Configuration} {more : Remarks} → Ensured m book sub (only p) ending.NoChain old new
       → more ≡ rounds_beside false book old.object new.object
-      → Gives book old sub name p (refused NoChain more) new
-  is_crowded : {new : Configuration} {more : Remarks} → Ensured book sub (only p) ending.Crowded old new
+      → Gives m book old sub name p (refused NoChain more) new
+  is_crowded : {new : Configuration} {more : Remarks} → Ensured m book sub (only p) ending.Crowded old new
       → more ≡ rounds_beside false book old.object new.object
-      → Gives book old sub name p (refused Crowded more) new
+      → Gives m book old sub name p (refused Crowded more) new
   is_shown : {new : Configuration} {n : List ℕ} {of : ObjectType} {q : PropId} {v : PropertyValue} {t
-      : Rounds} → Ensured book sub (only p) ending.Found old new → n ≡ name → of ≡ old.object.of → q ≡ p
+      : Rounds} → Ensured m book sub (only p) ending.Found old new → n ≡ name → of ≡ old.object.of → q ≡ p
       → value_of p (read_at sub new.object.held) ≡ Some v
       → t ≡ named_rounds book new.object (later_rounds old.object new.object)
-      → Gives book old sub name p (shows n of q v t) new
+      → Gives m book old sub name p (shows n of q v t) new
 
 -- what REF names does so for the property of this name
-abbrev pub Gave : List Rule → Machine → RefSeen → List ℕ → ReplySeen → Machine → Type 0
-Gave book old ref text reply new = (x : Named) × (named_at (shelf old) ref ≡ Some x) × (p : PropId)
+abbrev pub Gave : Meanings → List Rule → Machine → RefSeen → List ℕ → ReplySeen → Machine → Type 0
+Gave m book old ref text reply new = (x : Named) × (named_at (shelf old) ref ≡ Some x) × (p : PropId)
     × (property_at x text ≡ Some p)
-    × (c : Configuration) × Gives book (configuration x.object old.clients) x.sub (ref_text ref) p reply c
+    × (c : Configuration) × Gives m book (configuration x.object old.clients) x.sub (ref_text ref) p reply c
     × Becomes ref.name c old new
 
 -- `give REF PROP`: the ways in which it may end
-pub data GiveStep (book : List Rule) (old : Machine) (ref : RefSeen) (text : List ℕ) : ReplySeen → Machine
-    → Type 0 where
+pub data GiveStep (m : Meanings) (book : List Rule) (old : Machine) (ref : RefSeen)
+    (text : List ℕ) : ReplySeen → Machine → Type 0 where
   is_refused : {new : Machine} {why : Refusal} → PropertyRefusal (shelf old) ref text why → Stays old new
-      → GiveStep book old ref text (refused why nothing) new
-  is_asked : {new : Machine} {reply : ReplySeen} → Gave book old ref text reply new
-      → GiveStep book old ref text reply new
+      → GiveStep m book old ref text (refused why nothing) new
+  is_asked : {new : Machine} {reply : ReplySeen} → Gave m book old ref text reply new
+      → GiveStep m book old ref text reply new
 
 -- the properties that the words name there, if each names one
 abbrev pub all_named : ObjectType → Option ℕ → List (List ℕ) → Option (List PropId)
@@ -253,32 +254,32 @@ pub data PropertiesRefusal (s : Shelf) (ref : RefSeen) (words : List (List ℕ))
 
 -- the object ensures what is asked, of this program if one is asked; or no chain leads there, or too many sets of
 -- names cost less
-pub data Ensures (book : List Rule) (old : Configuration) (sub : Option ℕ) (asked : PropSet) : ReplySeen
-    → Configuration → Type 0 where
-  no_chain : {new : Configuration} {more : Remarks} → Ensured book sub asked ending.NoChain old new
+pub data Ensures (m : Meanings) (book : List Rule) (old : Configuration) (sub : Option ℕ)
+    (asked : PropSet) : ReplySeen → Configuration → Type 0 where
+  no_chain : {new : Configuration} {more : Remarks} → Ensured m book sub asked ending.NoChain old new
       → more ≡ rounds_beside true book old.object new.object
-      → Ensures book old sub asked (refused NoChain more) new
-  is_crowded : {new : Configuration} {more : Remarks} → Ensured book sub asked ending.Crowded old new
+      → Ensures m book old sub asked (refused NoChain more) new
+  is_crowded : {new : Configuration} {more : Remarks} → Ensured m book sub asked ending.Crowded old new
       → more ≡ rounds_beside true book old.object new.object
-      → Ensures book old sub asked (refused Crowded more) new
-  is_found : {new : Configuration} {t : Rounds} → Ensured book sub asked ending.Found old new
+      → Ensures m book old sub asked (refused Crowded more) new
+  is_found : {new : Configuration} {t : Rounds} → Ensured m book sub asked ending.Found old new
       → t ≡ named_rounds book new.object (later_rounds old.object new.object)
-      → Ensures book old sub asked (ensured t) new
+      → Ensures m book old sub asked (ensured t) new
 
 -- what REF names does so for what these words ask
-abbrev pub EnsuredAll : List Rule → Machine → RefSeen → List (List ℕ) → ReplySeen → Machine → Type 0
-EnsuredAll book old ref words reply new = (x : Named) × (named_at (shelf old) ref ≡ Some x)
+abbrev pub EnsuredAll : Meanings → List Rule → Machine → RefSeen → List (List ℕ) → ReplySeen → Machine → Type 0
+EnsuredAll m book old ref words reply new = (x : Named) × (named_at (shelf old) ref ≡ Some x)
     × (asked : PropSet) × (asked_of x words ≡ Some asked)
-    × (c : Configuration) × Ensures book (configuration x.object old.clients) x.sub asked reply c
+    × (c : Configuration) × Ensures m book (configuration x.object old.clients) x.sub asked reply c
     × Becomes ref.name c old new
 
 -- `ensure REF PROP ..`: the ways in which it may end
-pub data EnsureStep (book : List Rule) (old : Machine) (ref : RefSeen) (words : List (List ℕ)) : ReplySeen
-    → Machine → Type 0 where
+pub data EnsureStep (m : Meanings) (book : List Rule) (old : Machine) (ref : RefSeen)
+    (words : List (List ℕ)) : ReplySeen → Machine → Type 0 where
   is_refused : {new : Machine} {why : Refusal} → PropertiesRefusal (shelf old) ref words why → Stays old new
-      → EnsureStep book old ref words (refused why nothing) new
-  is_asked : {new : Machine} {reply : ReplySeen} → EnsuredAll book old ref words reply new
-      → EnsureStep book old ref words reply new
+      → EnsureStep m book old ref words (refused why nothing) new
+  is_asked : {new : Machine} {reply : ReplySeen} → EnsuredAll m book old ref words reply new
+      → EnsureStep m book old ref words reply new
 
 -- the object when it is settled
 abbrev pub settled_object : State → State
@@ -560,27 +561,27 @@ pub data UnloadStep (old : Machine) (name : List ℕ) : ReplySeen → Machine �
       → Unloads name old new → UnloadStep old name (done t) new
 
 -- from the machine old the reply to the command may be given, and it goes on as new
-abbrev pub Step : List Rule → Machine → Spoken → ReplySeen → Machine → Type 0
-Step book old blank reply new = ⊥
-Step book old (new_object ref text) reply new = NewStep old ref text reply new
-Step book old (take_value ref text json) reply new = TakeStep old ref text json reply new
-Step book old (give_value ref text) reply new = GiveStep book old ref text reply new
-Step book old (look_up ref text) reply new = LookupStep old ref text reply new
-Step book old (ensure_values ref words) reply new = EnsureStep book old ref words reply new
-Step book old (explain_values ref words) reply new = ExplainStep book old ref words reply new
-Step book old (tell_history name) reply new = HistoryStep book old name reply new
-Step book old (show_object name) reply new = ShowStep old name reply new
-Step book old (tell_evidence name label) reply new = EvidenceStep book old name label reply new
-Step book old show_rules reply new = RulesStep book old reply new
-Step book old (disable_rule name label) reply new = DisableStep book old name label reply new
-Step book old (unload_client name) reply new = UnloadStep old name reply new
-Step book old (copy_object name to) reply new = CopyStep old name to reply new
-Step book old (drop_object name) reply new = DropStep old name reply new
-Step book old (tell_origin ref text) reply new = OriginStep old ref text reply new
-Step book old (load_object name file) reply new = LoadStep book old name file reply new
-Step book old (save_object name file) reply new = SaveStep book old name file reply new
-Step book old (make_object to shape) reply new = MakeStep old to shape reply new
-Step book old (build_object builder names to) reply new = BuildStep book builder old names to reply new
+abbrev pub Step : Meanings → List Rule → Machine → Spoken → ReplySeen → Machine → Type 0
+Step m book old blank reply new = ⊥
+Step m book old (new_object ref text) reply new = NewStep old ref text reply new
+Step m book old (take_value ref text json) reply new = TakeStep old ref text json reply new
+Step m book old (give_value ref text) reply new = GiveStep m book old ref text reply new
+Step m book old (look_up ref text) reply new = LookupStep old ref text reply new
+Step m book old (ensure_values ref words) reply new = EnsureStep m book old ref words reply new
+Step m book old (explain_values ref words) reply new = ExplainStep book old ref words reply new
+Step m book old (tell_history name) reply new = HistoryStep book old name reply new
+Step m book old (show_object name) reply new = ShowStep old name reply new
+Step m book old (tell_evidence name label) reply new = EvidenceStep book old name label reply new
+Step m book old show_rules reply new = RulesStep book old reply new
+Step m book old (disable_rule name label) reply new = DisableStep book old name label reply new
+Step m book old (unload_client name) reply new = UnloadStep old name reply new
+Step m book old (copy_object name to) reply new = CopyStep old name to reply new
+Step m book old (drop_object name) reply new = DropStep old name reply new
+Step m book old (tell_origin ref text) reply new = OriginStep old ref text reply new
+Step m book old (load_object name file) reply new = LoadStep book old name file reply new
+Step m book old (save_object name file) reply new = SaveStep book old name file reply new
+Step m book old (make_object to shape) reply new = MakeStep old to shape reply new
+Step m book old (build_object builder names to) reply new = BuildStep m book builder old names to reply new
 
 -- each object is honest, and while it has no round each of its values was given or stored
 pub record AllKept (m : Machine) : Type 0 where

@@ -1,5 +1,6 @@
 // What is asked of an object: values and plans.
 
+ghost use Rattle.pm_client.specs.Meanings.{Narrows, meanings};
 ghost use Rattle.pm_rounds.specs.Events.{EnsuredInPart, configuration};
 ghost use Rattle.pm_rounds.specs.Reasons.{AreReasons};
 ghost use Rattle.pm_machine.specs.Machines.{no_rounds};
@@ -107,12 +108,16 @@ pub fn give_value(
     clients: &mut Vec<Box<dyn Client>>,
 ) -> Result<Reply, AllocError>
     requires place { HasPlace sub object.old.state }
-    ensures gives { IfOk result (λ r. Gives book.now
+    ensures gives { IfOk result (λ r. Gives
+        (meanings tally MayPut MayFail clients.old.items) book.now
         (configuration object.old.state (map tally clients.old.items)) sub (string_bytes name) p (seen r)
         (configuration object.new.state (map tally clients.new.items))) }
-    ensures err { OnErr result (EnsuredInPart book.now sub (only p)
+    ensures err { OnErr result (EnsuredInPart
+        (meanings tally MayPut MayFail clients.old.items) book.now sub (only p)
         (configuration object.old.state (map tally clients.old.items))
         (configuration object.new.state (map tally clients.new.items))) }
+    ensures narrows { Narrows (meanings tally MayPut MayFail clients.old.items)
+        (meanings tally MayPut MayFail clients.new.items) }
 {
     let of = object.of();
     let before = object.rounds().len();
@@ -142,12 +147,16 @@ pub fn ensure_values(
     clients: &mut Vec<Box<dyn Client>>,
 ) -> Result<Reply, AllocError>
     requires place { HasPlace sub object.old.state }
-    ensures made { IfOk result (λ r. Ensures book.now
+    ensures made { IfOk result (λ r. Ensures
+        (meanings tally MayPut MayFail clients.old.items) book.now
         (configuration object.old.state (map tally clients.old.items)) sub asked (seen r)
         (configuration object.new.state (map tally clients.new.items))) }
-    ensures err { OnErr result (EnsuredInPart book.now sub asked
+    ensures err { OnErr result (EnsuredInPart
+        (meanings tally MayPut MayFail clients.old.items) book.now sub asked
         (configuration object.old.state (map tally clients.old.items))
         (configuration object.new.state (map tally clients.new.items))) }
+    ensures narrows { Narrows (meanings tally MayPut MayFail clients.old.items)
+        (meanings tally MayPut MayFail clients.new.items) }
 {
     let before = object.rounds().len();
     let ending = ensure(alloc, object, book, sub, asked, clients)?;

@@ -1,5 +1,6 @@
 // The commands that build objects.
 
+ghost use Rattle.pm_client.specs.Meanings.{Narrows, meanings};
 ghost use Rattle.pm_command.specs.Builders.{builder_of, operands_of};
 ghost use Rattle.pm_command.specs.Commands.{seen_shape};
 ghost use Rattle.pm_files.specs.Views.{file_of};
@@ -158,17 +159,21 @@ impl Session {
         rounds: &mut Vec<Round>,
     ) -> Result<Ending, AllocError>
         requires named { IsTrue (is_some ((machine_of self.old []).object name.now)) }
-        ensures ok { IfOk result (λ e. TellsOne (book_of self.old)
+        ensures ok { IfOk result (λ e. TellsOne
+            (meanings tally MayPut MayFail clients.old.items) (book_of self.old)
             (record { name = name.now; property = p }) e
             (map round_seen rounds.old.items) (map round_seen rounds.new.items)
             (machine_of self.old (map tally clients.old.items))
             (machine_of self.new (map tally clients.new.items))) }
-        ensures part { OnErr result (EnsuresOneInPart (book_of self.old)
+        ensures part { OnErr result (EnsuresOneInPart
+            (meanings tally MayPut MayFail clients.old.items) (book_of self.old)
             (record { name = name.now; property = p })
             (machine_of self.old (map tally clients.old.items))
             (machine_of self.new (map tally clients.new.items))) }
         ensures book { book_of self.new ≡ book_of self.old }
         ensures spent { is_spent self.new ≡ is_spent self.old }
+        ensures narrows { Narrows (meanings tally MayPut MayFail clients.old.items)
+            (meanings tally MayPut MayFail clients.new.items) }
     {
         let Some(object) = self.objects.get_mut(name) else {
             unreachable!()
@@ -190,15 +195,19 @@ impl Session {
         rounds: &mut Vec<Round>,
     ) -> Result<Ending, AllocError>
         requires named { IsTrue (is_some ((machine_of self.old []).object name.now)) }
-        ensures ok { IfOk result (λ e. TellsAll (book_of self.old) (wanted_of name.now ps.now) e
+        ensures ok { IfOk result (λ e. TellsAll
+            (meanings tally MayPut MayFail clients.old.items) (book_of self.old) (wanted_of name.now ps.now) e
             (map round_seen rounds.old.items) (map round_seen rounds.new.items)
             (machine_of self.old (map tally clients.old.items))
             (machine_of self.new (map tally clients.new.items))) }
-        ensures part { OnErr result (EnsuresInPart (book_of self.old) (wanted_of name.now ps.now)
+        ensures part { OnErr result (EnsuresInPart
+            (meanings tally MayPut MayFail clients.old.items) (book_of self.old) (wanted_of name.now ps.now)
             (machine_of self.old (map tally clients.old.items))
             (machine_of self.new (map tally clients.new.items))) }
         ensures book { book_of self.new ≡ book_of self.old }
         ensures spent { is_spent self.new ≡ is_spent self.old }
+        ensures narrows { Narrows (meanings tally MayPut MayFail clients.old.items)
+            (meanings tally MayPut MayFail clients.new.items) }
     {
         for p in ps {
             let ending = self.ensure_one(alloc, name, *p, clients, rounds)?;
@@ -218,17 +227,21 @@ impl Session {
         rounds: &mut Vec<Round>,
     ) -> Result<Ending, AllocError>
         requires named { are_named (shelf (machine_of self.old [])) (operands_of what.now) ≡ true }
-        ensures ok { IfOk result (λ e. TellsAll (book_of self.old)
+        ensures ok { IfOk result (λ e. TellsAll
+            (meanings tally MayPut MayFail clients.old.items) (book_of self.old)
             (wanted_all (row_of (builder_of what.now)).reads (operands_of what.now)) e
             (map round_seen rounds.old.items) (map round_seen rounds.new.items)
             (machine_of self.old (map tally clients.old.items))
             (machine_of self.new (map tally clients.new.items))) }
-        ensures part { OnErr result (EnsuresInPart (book_of self.old)
+        ensures part { OnErr result (EnsuresInPart
+            (meanings tally MayPut MayFail clients.old.items) (book_of self.old)
             (wanted_all (row_of (builder_of what.now)).reads (operands_of what.now))
             (machine_of self.old (map tally clients.old.items))
             (machine_of self.new (map tally clients.new.items))) }
         ensures book { book_of self.new ≡ book_of self.old }
         ensures spent { is_spent self.new ≡ is_spent self.old }
+        ensures narrows { Narrows (meanings tally MayPut MayFail clients.old.items)
+            (meanings tally MayPut MayFail clients.new.items) }
     {
         let row = row_of(what.builder());
         match what {
@@ -302,16 +315,20 @@ impl Session {
         new: String,
         clients: &mut Vec<Box<dyn Client>>,
     ) -> Result<Reply, AllocError>
-        ensures step { IfOk result (λ r. BuildStep (book_of self.old)
+        ensures step { IfOk result (λ r. BuildStep
+            (meanings tally MayPut MayFail clients.old.items) (book_of self.old)
             (builder_of what.now) (machine_of self.old (map tally clients.old.items))
             (operands_of what.now) (string_bytes new) (seen r)
             (machine_of self.new (map tally clients.new.items))) }
-        ensures part { OnErr result (BuiltInPart (book_of self.old)
+        ensures part { OnErr result (BuiltInPart
+            (meanings tally MayPut MayFail clients.old.items) (book_of self.old)
             (builder_of what.now) (operands_of what.now) (string_bytes new)
             (machine_of self.old (map tally clients.old.items))
             (machine_of self.new (map tally clients.new.items))) }
         ensures book { book_of self.new ≡ book_of self.old }
         ensures spent { is_spent self.new ≡ is_spent self.old }
+        ensures narrows { Narrows (meanings tally MayPut MayFail clients.old.items)
+            (meanings tally MayPut MayFail clients.new.items) }
     {
         if !self.are_named(what) {
             return Ok(Reply::refused(alloc, Refusal::UnknownName));

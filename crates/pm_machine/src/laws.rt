@@ -3,6 +3,7 @@
 ghost use Rattle.pm_machine.specs.BuildingExamples.{ObjectsAreBuilt, OperandsAreRead, ShapesAreMade, WantedIsEnsured};
 ghost use Rattle.pm_machine.specs.Examples.{AnswersAreRead, FilesAreKept, ObjectsAreRead, ProgramsAreRead};
 ghost use Rattle.pm_machine.specs.RefusalExamples.{RefusalsAreRead};
+ghost use Rattle.pm_machine.specs.Widening.{Widens};
 ghost use Rattle.pm_machine.specs.Laws.{StepsInPartKeep, StepsInPartKeepEvidence, StepsKeep, StepsKeepEvidence};
 
 /// Whatever a step answers, each object stays honest.
@@ -23,6 +24,20 @@ pub fn law_steps_keep_evidence()
 /// Whatever part of a step happened, each excluded rule keeps evidence that holds of the object.
 pub fn law_steps_in_part_keep_evidence()
     ensures { StepsInPartKeepEvidence }
+{}
+
+/// What some clients say of themselves, for a law that holds whatever it is.
+pub trait Meant {
+    ghost use Rattle.pm_client.specs.Meanings.{Meanings};
+
+    // What they say.
+    ghost meant: { Meanings };
+}
+
+/// A run of clients that say something of themselves is one of clients that say nothing: the laws over runs hold of
+/// it.
+pub fn law_runs_widen<M: Meant>()
+    ensures { Widens M.meant }
 {}
 
 /// Which reason a command is refused for before it changes anything, and which it is not.

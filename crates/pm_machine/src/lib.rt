@@ -11,8 +11,9 @@ mod session;
 mod taking;
 
 pub use laws::{
-    example_answers, example_building, example_files, example_objects, example_operands,
-    example_programs, example_refusals, example_shapes, example_wanted, law_steps_in_part_keep,
-    law_steps_in_part_keep_evidence, law_steps_keep, law_steps_keep_evidence,
+    Meant, example_answers, example_building, example_files, example_objects, example_operands,
+    example_programs, example_refusals, example_shapes, example_wanted, law_runs_widen,
+    law_steps_in_part_keep, law_steps_in_part_keep_evidence, law_steps_keep,
+    law_steps_keep_evidence,
 };
 pub use session::Session;

@@ -1,5 +1,6 @@
 // A session: named objects, the book, and its steps.
 
+ghost use Rattle.pm_client.specs.Meanings.{Narrows, meanings};
 ghost use Rattle.pm_machine.specs.Parts.{AllHonest, SavedInPart, StepInPart};
 ghost use Rattle.pm_rounds.specs.Running.{HasPlace};
 ghost use Rattle.pm_machine.specs.Sessions.{MakesNamed, book_of, is_spent, machine_at, machine_of, makes_object, only_tells};
@@ -352,15 +353,19 @@ impl Session {
         prop: &str,
         clients: &mut Vec<Box<dyn Client>>,
     ) -> Result<Reply, AllocError>
-        ensures step { IfOk result (λ r. GiveStep (book_of self.old)
+        ensures step { IfOk result (λ r. GiveStep
+            (meanings tally MayPut MayFail clients.old.items) (book_of self.old)
             (machine_of self.old (map tally clients.old.items)) (seen_ref obj.now) prop.now (seen r)
             (machine_of self.new (map tally clients.new.items))) }
-        ensures part { OnErr result (StepInPart (book_of self.old)
+        ensures part { OnErr result (StepInPart
+            (meanings tally MayPut MayFail clients.old.items) (book_of self.old)
             (machine_of self.old (map tally clients.old.items)) (give_value
             (seen_ref obj.now) prop.now)
             (machine_of self.new (map tally clients.new.items))) }
         ensures book { book_of self.new ≡ book_of self.old }
         ensures spent { is_spent self.new ≡ is_spent self.old }
+        ensures narrows { Narrows (meanings tally MayPut MayFail clients.old.items)
+            (meanings tally MayPut MayFail clients.new.items) }
     {
         let Some(object) = self.objects.get_mut(obj.name.as_str()) else {
             return Ok(Reply::refused(alloc, Refusal::UnknownName));
@@ -384,16 +389,20 @@ impl Session {
         props: &[String],
         clients: &mut Vec<Box<dyn Client>>,
     ) -> Result<Reply, AllocError>
-        ensures step { IfOk result (λ r. EnsureStep (book_of self.old)
+        ensures step { IfOk result (λ r. EnsureStep
+            (meanings tally MayPut MayFail clients.old.items) (book_of self.old)
             (machine_of self.old (map tally clients.old.items)) (seen_ref obj.now)
             (map string_bytes props.now) (seen r)
             (machine_of self.new (map tally clients.new.items))) }
-        ensures part { OnErr result (StepInPart (book_of self.old)
+        ensures part { OnErr result (StepInPart
+            (meanings tally MayPut MayFail clients.old.items) (book_of self.old)
             (machine_of self.old (map tally clients.old.items)) (ensure_values
             (seen_ref obj.now) (map string_bytes props.now))
             (machine_of self.new (map tally clients.new.items))) }
         ensures book { book_of self.new ≡ book_of self.old }
         ensures spent { is_spent self.new ≡ is_spent self.old }
+        ensures narrows { Narrows (meanings tally MayPut MayFail clients.old.items)
+            (meanings tally MayPut MayFail clients.new.items) }
     {
         let Some(object) = self.objects.get_mut(obj.name.as_str()) else {
             return Ok(Reply::refused(alloc, Refusal::UnknownName));
@@ -420,7 +429,8 @@ impl Session {
             (machine_of self.old (map tally clients.now)) (seen_ref obj.now)
             (map string_bytes props.now) (seen r)
             (machine_of self.new (map tally clients.now))) }
-        ensures part { OnErr result (StepInPart (book_of self.old)
+        ensures part { OnErr result (StepInPart
+            (meanings tally MayPut MayFail clients.now) (book_of self.old)
             (machine_of self.old (map tally clients.now)) (explain_values
             (seen_ref obj.now) (map string_bytes props.now))
             (machine_of self.new (map tally clients.now))) }
@@ -539,9 +549,11 @@ impl Session {
 
     // `unload CLIENT`
     fn do_unload(&self, alloc: Global, client: &str, clients: &mut Vec<Box<dyn Client>>) -> Reply
-        ensures { UnloadStep (machine_of self.now (map tally clients.old.items)) client.now
+        ensures step { UnloadStep (machine_of self.now (map tally clients.old.items)) client.now
             (seen result)
             (machine_of self.now (map tally clients.new.items)) }
+        ensures narrows { Narrows (meanings tally MayPut MayFail clients.old.items)
+            (meanings tally MayPut MayFail clients.new.items) }
     {
         let Some(place) = place_named(clients, client) else {
             return Reply::refused(alloc, Refusal::UnknownRule);
@@ -649,7 +661,7 @@ impl Session {
         clients: &[Box<dyn Client>],
     ) -> Result<Reply, AllocError>
         requires tells { only_tells (spoken c.now) ≡ true }
-        ensures { IfOk result (λ r. Step (book_of self.now)
+        ensures { IfOk result (λ r. Step (meanings tally MayPut MayFail clients.now) (book_of self.now)
             (machine_of self.now (map tally clients.now)) (spoken c.now) (seen r)
             (machine_of self.now (map tally clients.now))) }
     {
@@ -674,14 +686,18 @@ impl Session {
         requires spoken { spoken c.now ≢ blank }
         requires there { makes_object (spoken c.now) ≡ false }
         requires own { is_on_files (spoken c.now) ≡ false }
-        ensures step { IfOk result (λ r. Step (book_of self.old)
+        ensures step { IfOk result (λ r. Step
+            (meanings tally MayPut MayFail clients.old.items) (book_of self.old)
             (machine_of self.old (map tally clients.old.items)) (spoken c.now) (seen r)
             (machine_of self.new (map tally clients.new.items))) }
-        ensures part { OnErr result (StepInPart (book_of self.old)
+        ensures part { OnErr result (StepInPart
+            (meanings tally MayPut MayFail clients.old.items) (book_of self.old)
             (machine_of self.old (map tally clients.old.items)) (spoken c.now)
             (machine_of self.new (map tally clients.new.items))) }
         ensures book { book_of self.new ≡ book_of self.old }
         ensures spent { is_spent self.new ≡ is_spent self.old }
+        ensures narrows { Narrows (meanings tally MayPut MayFail clients.old.items)
+            (meanings tally MayPut MayFail clients.new.items) }
     {
         match c {
             Command::Take { obj, prop, json } => self.do_take(alloc, obj, prop, json, clients),
@@ -705,14 +721,18 @@ impl Session {
         requires spoken { spoken c ≢ blank }
         requires named { MakesNamed (spoken c) }
         requires own { is_on_files (spoken c) ≡ false }
-        ensures step { IfOk result (λ r. Step (book_of self.old)
+        ensures step { IfOk result (λ r. Step
+            (meanings tally MayPut MayFail clients.old.items) (book_of self.old)
             (machine_of self.old (map tally clients.old.items)) (spoken c) (seen r)
             (machine_of self.new (map tally clients.new.items))) }
-        ensures part { OnErr result (StepInPart (book_of self.old)
+        ensures part { OnErr result (StepInPart
+            (meanings tally MayPut MayFail clients.old.items) (book_of self.old)
             (machine_of self.old (map tally clients.old.items)) (spoken c)
             (machine_of self.new (map tally clients.new.items))) }
         ensures book { book_of self.new ≡ book_of self.old }
         ensures spent { is_spent self.new ≡ is_spent self.old }
+        ensures narrows { Narrows (meanings tally MayPut MayFail clients.old.items)
+            (meanings tally MayPut MayFail clients.new.items) }
     {
         match c {
             Command::New { obj, of } => self.do_new(alloc, obj.name, obj.sub, &of, clients),
@@ -736,11 +756,13 @@ impl Session {
         store: &mut F,
     ) -> Result<Reply, AllocError>
         requires files { is_on_files (spoken c) ≡ true }
-        ensures step { IfOk result (λ r. Step (book_of self.old)
+        ensures step { IfOk result (λ r. Step
+            (meanings tally MayPut MayFail clients.now) (book_of self.old)
             (machine_at self.old (map tally clients.now) (F.files store.old) (F.faults store.old))
             (spoken c) (seen r)
             (machine_at self.new (map tally clients.now) (F.files store.new) (F.faults store.new))) }
-        ensures part { OnErr result (StepInPart (book_of self.old)
+        ensures part { OnErr result (StepInPart
+            (meanings tally MayPut MayFail clients.now) (book_of self.old)
             (machine_at self.old (map tally clients.now) (F.files store.old) (F.faults store.old))
             (spoken c)
             (machine_at self.new (map tally clients.now) (F.files store.new) (F.faults store.new))) }
@@ -765,17 +787,21 @@ impl Session {
     ) -> Result<Reply, AllocError>
         requires spoken { spoken c ≢ blank }
         requires named { MakesNamed (spoken c) }
-        ensures step { IfOk result (λ r. Step (book_of self.old)
+        ensures step { IfOk result (λ r. Step
+            (meanings tally MayPut MayFail clients.old.items) (book_of self.old)
             (machine_at self.old (map tally clients.old.items) (F.files store.old) (F.faults store.old))
             (spoken c) (seen r)
             (machine_at self.new (map tally clients.new.items) (F.files store.new) (F.faults store.new))) }
-        ensures part { OnErr result (StepInPart (book_of self.old)
+        ensures part { OnErr result (StepInPart
+            (meanings tally MayPut MayFail clients.old.items) (book_of self.old)
             (machine_at self.old (map tally clients.old.items) (F.files store.old) (F.faults store.old))
             (spoken c)
             (machine_at self.new (map tally clients.new.items) (F.files store.new) (F.faults store.new))) }
         ensures book { book_of self.new ≡ book_of self.old }
         ensures spent { is_spent self.new ≡ is_spent self.old }
         ensures never_falls { F.faults store.old ≤ F.faults store.new }
+        ensures narrows { Narrows (meanings tally MayPut MayFail clients.old.items)
+            (meanings tally MayPut MayFail clients.new.items) }
     {
         if c.is_on_files() {
             self.do_files(alloc, c, clients, store)
@@ -796,11 +822,13 @@ impl Session {
     ) -> Result<Reply, AllocError>
         requires spoken { spoken c ≢ blank }
         requires named { MakesNamed (spoken c) }
-        ensures step { IfOk result (λ r. Step (book_of self.old)
+        ensures step { IfOk result (λ r. Step
+            (meanings tally MayPut MayFail clients.old.items) (book_of self.old)
             (machine_at self.old (map tally clients.old.items) (F.files store.old) (F.faults store.old))
             (spoken c) (seen r)
             (machine_at self.new (map tally clients.new.items) (F.files store.new) (F.faults store.new))) }
-        ensures part { OnErr result (StepInPart (book_of self.old)
+        ensures part { OnErr result (StepInPart
+            (meanings tally MayPut MayFail clients.old.items) (book_of self.old)
             (machine_at self.old (map tally clients.old.items) (F.files store.old) (F.faults store.old))
             (spoken c)
             (machine_at self.new (map tally clients.new.items) (F.files store.new) (F.faults store.new))) }
@@ -820,6 +848,8 @@ impl Session {
             (machine_at self.old (map tally clients.old.items) (F.files store.old) (F.faults store.old))
             (machine_at self.new (map tally clients.new.items) (F.files store.new) (F.faults store.new)) }
         ensures never_falls { F.faults store.old ≤ F.faults store.new }
+        ensures narrows { Narrows (meanings tally MayPut MayFail clients.old.items)
+            (meanings tally MayPut MayFail clients.new.items) }
     {
         if self.spent {
             drop(c);

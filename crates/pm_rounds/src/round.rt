@@ -1,10 +1,11 @@
 // Rounds on an object.
 
+ghost use Rattle.pm_client.specs.Meanings.{Narrows, meanings};
 ghost use Rattle.pm_client.specs.Sound.{FailsRightly, IsSound};
 ghost use Rattle.pm_client.specs.Starts.{after_start, has_client};
 ghost use Rattle.pm_rounds.specs.Chains.{AllHeld, held_names, table};
 ghost use Rattle.pm_rounds.specs.Events.{Ensured, EnsuredInPart, ReachesInPart, StartedRule, at_rest, columns, configuration, turns};
-ghost use Rattle.pm_rounds.specs.Running.{BreaksTurn, FollowsChain, HasPlace, IsStale, MayFollow, NextRound, RunsRound, RunsRule, TakesTurn};
+ghost use Rattle.pm_rounds.specs.Running.{BreaksTurn, FollowsChain, HasPlace, IsStale, MayFollow, NextRound, RunsRound, RunsRule, TakesTurn, failed_so, ran_so};
 ghost use Rattle.pm_object.specs.Honest.{facts};
 ghost use Rattle.pm_object.specs.Reading.{view_for};
 ghost use Rattle.pm_object.specs.State.{cols_of, is_held};
@@ -63,6 +64,14 @@ fn run_client(
         (columns object.now.state)) draft.new) }
     ensures failed { IfErr result (FailsRightly
         (view_for object.now.state transaction.now.sub transaction.now.kind (columns object.now.state))) }
+    ensures gives { OnOk result ((meanings tally MayPut MayFail clients.old.items).Gives
+        (view_for object.now.state transaction.now.sub transaction.now.kind
+        (columns object.now.state)) draft.new) }
+    ensures fails { IfErr result ((meanings tally MayPut MayFail clients.old.items).Fails
+        (view_for object.now.state transaction.now.sub transaction.now.kind
+        (columns object.now.state))) }
+    ensures narrows { Narrows (meanings tally MayPut MayFail clients.old.items)
+        (meanings tally MayPut MayFail clients.new.items) }
 {
     let view = transaction.view(object);
     run_first(alloc, clients, &view, draft)
@@ -92,8 +101,9 @@ fn end_run(
     requires failed { IfErr ran (FailsRightly
         (view_for object.old.state sub rule.now.kind
         (columns object.old.state))) }
-    ensures ok { IfOk result (λ end. RunsRule sub id rule.now object.old.state end
-        object.new.state) }
+    ensures ok { IfOk result (λ end. RunsRule
+        (ran_so (view_for object.old.state sub rule.now.kind (columns object.old.state)) draft.old ran)
+        sub id rule.now object.old.state end object.new.state) }
     ensures err { OnErr result (object.new.state ≡ object.old.state) }
 {
     match ran {
@@ -122,8 +132,9 @@ fn exclude_failed(
     requires started { StartedRule sub rule.now object.old.state }
     requires failed { FailsRightly
         (view_for object.old.state sub rule.now.kind (columns object.old.state)) fail }
-    ensures ok { IfOk result (λ end. RunsRule sub id rule.now object.old.state end
-        object.new.state) }
+    ensures ok { IfOk result (λ end. RunsRule
+        (failed_so (view_for object.old.state sub rule.now.kind (columns object.old.state)) fail)
+        sub id rule.now object.old.state end object.new.state) }
     ensures err { OnErr result (object.new.state ≡ object.old.state) }
 {
     match fail {
@@ -157,11 +168,14 @@ fn run_rule(
     requires may { StartedRule sub rule.now object.old.state }
     ensures started { OnOk result (map tally clients.new.items ≡ after_start rule.now.kind
         (map tally clients.old.items)) }
-    ensures ok { IfOk result (λ end. RunsRule sub id rule.now object.old.state end
+    ensures ok { IfOk result (λ end. RunsRule
+        (meanings tally MayPut MayFail clients.old.items) sub id rule.now object.old.state end
         object.new.state) }
     ensures err { OnErr result (BreaksTurn sub rule.now
         (configuration object.old.state (map tally clients.old.items))
         (configuration object.new.state (map tally clients.new.items))) }
+    ensures narrows { Narrows (meanings tally MayPut MayFail clients.old.items)
+        (meanings tally MayPut MayFail clients.new.items) }
 {
     let transaction = Transaction::begin(alloc, object, sub, rule)?;
     let mut draft = Draft::new(alloc, &rule.kind);
@@ -184,12 +198,15 @@ fn take_turn(
     requires dimension { IsTrue (is_held ConeAmbientDim object.old.state.held) }
     requires enabled { IsEnabled (table sub object.old.state.of) []
         (held_names sub object.old.state) id rule.now }
-    ensures ok { IfOk result (λ end. TakesTurn sub id rule.now
+    ensures ok { IfOk result (λ end. TakesTurn
+        (meanings tally MayPut MayFail clients.old.items) sub id rule.now
         (configuration object.old.state (map tally clients.old.items)) end
         (configuration object.new.state (map tally clients.new.items))) }
     ensures err { OnErr result (BreaksTurn sub rule.now
         (configuration object.old.state (map tally clients.old.items))
         (configuration object.new.state (map tally clients.new.items))) }
+    ensures narrows { Narrows (meanings tally MayPut MayFail clients.old.items)
+        (meanings tally MayPut MayFail clients.new.items) }
 {
     // Its values have their forms.
     let _of = object.of();
@@ -218,14 +235,18 @@ fn follow_chain(
     requires dimension { IsTrue (is_held ConeAmbientDim object.old.state.held) }
     requires may { MayFollow rules.now sub chain.now
         (configuration object.old.state (map tally clients.old.items)) }
-    ensures ok { IfOk result (λ end. FollowsChain rules.now sub chain.now
+    ensures ok { IfOk result (λ end. FollowsChain
+        (meanings tally MayPut MayFail clients.old.items) rules.now sub chain.now
         (configuration object.old.state (map tally clients.old.items)) end
         (configuration object.new.state (map tally clients.new.items))) }
     ensures dimension { OnOk result (IsTrue (is_held ConeAmbientDim object.new.state.held)) }
-    ensures err { OnErr result ((asked : PropSet) → ReachesInPart rules.now sub asked
+    ensures err { OnErr result ((asked : PropSet) → ReachesInPart
+        (meanings tally MayPut MayFail clients.old.items) rules.now sub asked
         (turns chain.now chain.now)
         (configuration object.old.state (map tally clients.old.items))
         (configuration object.new.state (map tally clients.new.items))) }
+    ensures narrows { Narrows (meanings tally MayPut MayFail clients.old.items)
+        (meanings tally MayPut MayFail clients.new.items) }
 {
     for id in chain {
         let rule = &rules[usize::from(id.0)];
@@ -253,13 +274,17 @@ fn run_round(
     requires weighs { weight ≡ weigh rules.now chain.items }
     requires may { MayFollow rules.now sub chain.items
         (configuration object.old.state (map tally clients.old.items)) }
-    ensures ok { OnOk result (RunsRound rules.now sub chain.items
+    ensures ok { OnOk result (RunsRound
+        (meanings tally MayPut MayFail clients.old.items) rules.now sub chain.items
         (configuration object.old.state (map tally clients.old.items))
         (configuration object.new.state (map tally clients.new.items))) }
-    ensures err { OnErr result ((asked : PropSet) → ReachesInPart rules.now sub asked
+    ensures err { OnErr result ((asked : PropSet) → ReachesInPart
+        (meanings tally MayPut MayFail clients.old.items) rules.now sub asked
         (turns chain.items chain.items)
         (configuration object.old.state (map tally clients.old.items))
         (configuration object.new.state (map tally clients.new.items))) }
+    ensures narrows { Narrows (meanings tally MayPut MayFail clients.old.items)
+        (meanings tally MayPut MayFail clients.new.items) }
 {
     let end = follow_chain(alloc, object, rules, sub, &chain, clients)?;
     let round = Round {
@@ -284,12 +309,16 @@ fn next_round(
     requires place { HasPlace sub object.old.state }
     requires dimension { IsTrue (is_held ConeAmbientDim object.old.state.held) }
     requires missing { AllHeld sub asked object.old.state → ⊥ }
-    ensures ok { IfOk result (λ ending. NextRound book.now sub asked ending
+    ensures ok { IfOk result (λ ending. NextRound
+        (meanings tally MayPut MayFail clients.old.items) book.now sub asked ending
         (configuration object.old.state (map tally clients.old.items))
         (configuration object.new.state (map tally clients.new.items))) }
-    ensures err { OnErr result (ReachesInPart book.now sub asked at_rest
+    ensures err { OnErr result (ReachesInPart
+        (meanings tally MayPut MayFail clients.old.items) book.now sub asked at_rest
         (configuration object.old.state (map tally clients.old.items))
         (configuration object.new.state (map tally clients.new.items))) }
+    ensures narrows { Narrows (meanings tally MayPut MayFail clients.old.items)
+        (meanings tally MayPut MayFail clients.new.items) }
 {
     let rules = book.rules();
     let barred = barred_rules(alloc, rules, clients, object, sub)?;
@@ -324,12 +353,16 @@ pub fn ensure(
     clients: &mut Vec<Box<dyn Client>>,
 ) -> Result<Ending, AllocError>
     requires place { HasPlace sub object.old.state }
-    ensures ok { IfOk result (λ ending. Ensured book.now sub asked ending
+    ensures ok { IfOk result (λ ending. Ensured
+        (meanings tally MayPut MayFail clients.old.items) book.now sub asked ending
         (configuration object.old.state (map tally clients.old.items))
         (configuration object.new.state (map tally clients.new.items))) }
-    ensures err { OnErr result (EnsuredInPart book.now sub asked
+    ensures err { OnErr result (EnsuredInPart
+        (meanings tally MayPut MayFail clients.old.items) book.now sub asked
         (configuration object.old.state (map tally clients.old.items))
         (configuration object.new.state (map tally clients.new.items))) }
+    ensures narrows { Narrows (meanings tally MayPut MayFail clients.old.items)
+        (meanings tally MayPut MayFail clients.new.items) }
 {
     object.settle(alloc)?;
     while !asked.is_subset(object.names(sub)) {

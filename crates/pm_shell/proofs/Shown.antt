@@ -1,4 +1,7 @@
 -- A value that is shown stands in an honest object.
+use Rattle.pm_client.specs.Meanings.{Meanings, unsaid}
+use Rattle.pm_machine.proofs.Narrowing.{step_more}
+use Rattle.pm_rounds.proofs.Narrowing.{narrows_unsaid}
 use Rattle.std.proofs.Common.{ap, subst, sym, refl, ◌∙◌, ◌≡◌, ℕ, List, [], ◌∷◌, Option, Some, None}
 use Rattle.std.proofs.lemmas.Option.{same_Some}
 use Rattle.std.specs.Option.{option_and_then, option_map}
@@ -26,25 +29,27 @@ use Rattle.pm_props.specs.declared.property.PropId.{PropId}
 use Rattle.pm_props.specs.declared.set.PropSet.{PropSet}
 
 -- ---- honesty
-pub kept_to : (book : List Rule) (old new : Machine) (why : Refusal) (command : Option Spoken) (reply : Option ReplySeen) → AnswersTo book old why command reply new → AllKept old → AllKept new
-kept_to book old new why (Some command) (Some reply) step all = steps_keep book old new command reply step all
-kept_to book old new why (Some blank) None is all = subst AllKept (sym is) all
-kept_to book old new why (Some command) None h all = absurd h
-kept_to book old new why None (Some reply) (reply_is, is) all = subst AllKept (sym is) all
-kept_to book old new why None None h all = absurd h
+pub kept_to : (M : Meanings) (book : List Rule) (old new : Machine) (why : Refusal) (command : Option Spoken) (reply : Option ReplySeen) → AnswersTo M book old why command reply new → AllKept old → AllKept new
+kept_to M book old new why (Some command) (Some reply) step all =
+    steps_keep book old new command reply (step_more unsaid M (narrows_unsaid M) book old new command reply step) all
+kept_to M book old new why (Some blank) None is all = subst AllKept (sym is) all
+kept_to M book old new why (Some command) None h all = absurd h
+kept_to M book old new why None (Some reply) (reply_is, is) all = subst AllKept (sym is) all
+kept_to M book old new why None None h all = absurd h
 
-pub stand_to : (book : List Rule) (old new : Machine) (why : Refusal) (command : Option Spoken) (reply : Option ReplySeen) → AnswersTo book old why command reply new → AllStand book old → AllStand book new
-stand_to book old new why (Some command) (Some reply) step all = steps_keep_evidence book old new command reply step all
-stand_to book old new why (Some blank) None is all = subst (AllStand book) (sym is) all
-stand_to book old new why (Some command) None h all = absurd h
-stand_to book old new why None (Some reply) (reply_is, is) all = subst (AllStand book) (sym is) all
-stand_to book old new why None None h all = absurd h
+pub stand_to : (M : Meanings) (book : List Rule) (old new : Machine) (why : Refusal) (command : Option Spoken) (reply : Option ReplySeen) → AnswersTo M book old why command reply new → AllStand book old → AllStand book new
+stand_to M book old new why (Some command) (Some reply) step all =
+    steps_keep_evidence book old new command reply (step_more unsaid M (narrows_unsaid M) book old new command reply step) all
+stand_to M book old new why (Some blank) None is all = subst (AllStand book) (sym is) all
+stand_to M book old new why (Some command) None h all = absurd h
+stand_to M book old new why None (Some reply) (reply_is, is) all = subst (AllStand book) (sym is) all
+stand_to M book old new why None None h all = absurd h
 
-pub stand_by : (book : List Rule) (old new : Machine) (line : Line) (reply : Option ReplySeen) → Answers book old line reply new → AllStand book old → AllStand book new
-stand_by book old new line reply answers all = stand_to book old new (refusal_of line) (command_at line) reply answers all
+pub stand_by : (M : Meanings) (book : List Rule) (old new : Machine) (line : Line) (reply : Option ReplySeen) → Answers M book old line reply new → AllStand book old → AllStand book new
+stand_by M book old new line reply answers all = stand_to M book old new (refusal_of line) (command_at line) reply answers all
 
-pub kept_by : (book : List Rule) (old new : Machine) (line : Line) (reply : Option ReplySeen) → Answers book old line reply new → AllKept old → AllKept new
-kept_by book old new line reply answers all = kept_to book old new (refusal_of line) (command_at line) reply answers all
+pub kept_by : (M : Meanings) (book : List Rule) (old new : Machine) (line : Line) (reply : Option ReplySeen) → Answers M book old line reply new → AllKept old → AllKept new
+kept_by M book old new line reply answers all = kept_to M book old new (refusal_of line) (command_at line) reply answers all
 
 -- ---- events keep the type and the programs
 of_event : (sub : Option ℕ) (e : Event) (c : Configuration) → (after_event sub e c).object.of ≡ c.object.of
@@ -59,8 +64,8 @@ of_events : (sub : Option ℕ) (events : List Event) (c : Configuration) → (af
 of_events sub [] c = refl
 of_events sub (e ∷ events) c = of_events sub events (after_event sub e c) ∙ of_event sub e c
 
-of_ensured : (book : List Rule) (sub : Option ℕ) (asked : PropSet) (ending : Ending) (old new : Configuration) → Ensured book sub asked ending old new → new.object.of ≡ old.object.of
-of_ensured book sub asked ending old new e = ap (λ (c : Configuration). c.object.of) e.reaches.becomes ∙ of_events sub e.reaches.events old
+of_ensured : (M : Meanings) (book : List Rule) (sub : Option ℕ) (asked : PropSet) (ending : Ending) (old new : Configuration) → Ensured M book sub asked ending old new → new.object.of ≡ old.object.of
+of_ensured M book sub asked ending old new e = ap (λ (c : Configuration). c.object.of) e.reaches.becomes ∙ of_events sub e.reaches.events old
 
 programs_event : (sub : Option ℕ) (e : Event) (c : Configuration) → (after_event sub e c).object.programs ≡ c.object.programs
 programs_event sub settled c = refl
@@ -74,8 +79,8 @@ programs_events : (sub : Option ℕ) (events : List Event) (c : Configuration) �
 programs_events sub [] c = refl
 programs_events sub (e ∷ events) c = programs_events sub events (after_event sub e c) ∙ programs_event sub e c
 
-programs_ensured : (book : List Rule) (sub : Option ℕ) (asked : PropSet) (ending : Ending) (old new : Configuration) → Ensured book sub asked ending old new → new.object.programs ≡ old.object.programs
-programs_ensured book sub asked ending old new e = ap (λ (c : Configuration). c.object.programs) e.reaches.becomes ∙ programs_events sub e.reaches.events old
+programs_ensured : (M : Meanings) (book : List Rule) (sub : Option ℕ) (asked : PropSet) (ending : Ending) (old new : Configuration) → Ensured M book sub asked ending old new → new.object.programs ≡ old.object.programs
+programs_ensured M book sub asked ending old new e = ap (λ (c : Configuration). c.object.programs) e.reaches.becomes ∙ programs_events sub e.reaches.events old
 
 -- ---- what a REF names
 -- another object with the same programs has the same part at the same place
@@ -108,24 +113,24 @@ none_made : (old new : Machine) (name : List ℕ) (sub : Option (List ℕ)) (wor
 none_made old new name None word text of p v t h = elim h [ ]
 none_made old new name (Some sub) word text of p v t h = elim h [ ]
 
-shown_step : (book : List Rule) (old new : Machine) (command : Spoken) (text : List ℕ) (of : ObjectType) (p : PropId) (v : PropertyValue) (t : Rounds)
-    → Step book old command (shows text of p v t) new → AllKept new → IsShown text of p v new
-shown_step book old new (new_object ref word) text of p v t h all = absurd (none_made old new ref.name ref.sub word text of p v t h)
-shown_step book old new (give_value ref word) text of p v t (is_asked (x, at, q, named, c, is_shown so is typed same held rounds, becomes)) all =
+shown_step : (M : Meanings) (book : List Rule) (old new : Machine) (command : Spoken) (text : List ℕ) (of : ObjectType) (p : PropId) (v : PropertyValue) (t : Rounds)
+    → Step M book old command (shows text of p v t) new → AllKept new → IsShown text of p v new
+shown_step M book old new (new_object ref word) text of p v t h all = absurd (none_made old new ref.name ref.sub word text of p v t h)
+shown_step M book old new (give_value ref word) text of p v t (is_asked (x, at, q, named, c, is_shown so is typed same held rounds, becomes)) all =
     shown_by new ref text of p v (record { object = c.object; sub = x.sub }) all is
-    (named_again old new ref x c.object at becomes.object (programs_ensured book x.sub _ Found (configuration x.object old.clients) c so))
-    (of_ensured book x.sub _ Found (configuration x.object old.clients) c so ∙ sym typed) (subst (λ z. value_of z (read_at x.sub c.object.held) ≡ Some v) (sym same) held)
-shown_step book old new (look_up ref word) text of p v t (is_shown x at named is typed held none stays) all =
+    (named_again old new ref x c.object at becomes.object (programs_ensured M book x.sub _ Found (configuration x.object old.clients) c so))
+    (of_ensured M book x.sub _ Found (configuration x.object old.clients) c so ∙ sym typed) (subst (λ z. value_of z (read_at x.sub c.object.held) ≡ Some v) (sym same) held)
+shown_step M book old new (look_up ref word) text of p v t (is_shown x at named is typed held none stays) all =
     shown_by new ref text of p v x all is (ap (option_and_then (λ y. part_named y ref.sub)) (stays.objects ref.name) ∙ at) (sym typed) held
-shown_step book old new (ensure_values ref words) text of p v t (is_asked (x, at, asked, named, c, h, becomes)) all = elim h [ ]
-shown_step book old new (explain_values ref words) text of p v t (is_asked (x, at, asked, named, h, becomes)) all = elim h [ ]
-shown_step book old new command text of p v t h all = elim h [ ]
+shown_step M book old new (ensure_values ref words) text of p v t (is_asked (x, at, asked, named, c, h, becomes)) all = elim h [ ]
+shown_step M book old new (explain_values ref words) text of p v t (is_asked (x, at, asked, named, h, becomes)) all = elim h [ ]
+shown_step M book old new command text of p v t h all = elim h [ ]
 
-shown_to : (book : List Rule) (old new : Machine) (why : Refusal) (command : Option Spoken) (text : List ℕ) (of : ObjectType) (p : PropId) (v : PropertyValue) (t : Rounds)
-    → AnswersTo book old why command (Some (shows text of p v t)) new → AllKept new → IsShown text of p v new
-shown_to book old new why (Some command) text of p v t step all = shown_step book old new command text of p v t step all
-shown_to book old new why None text of p v t (reply_is, is) all = absurd (cc reply_is)
+shown_to : (M : Meanings) (book : List Rule) (old new : Machine) (why : Refusal) (command : Option Spoken) (text : List ℕ) (of : ObjectType) (p : PropId) (v : PropertyValue) (t : Rounds)
+    → AnswersTo M book old why command (Some (shows text of p v t)) new → AllKept new → IsShown text of p v new
+shown_to M book old new why (Some command) text of p v t step all = shown_step M book old new command text of p v t step all
+shown_to M book old new why None text of p v t (reply_is, is) all = absurd (cc reply_is)
 
-pub shows_right : (book : List Rule) (old new : Machine) (line : Line) (reply : Option ReplySeen) → Answers book old line reply new → AllKept new → Shows reply new
-shows_right book old new line (Some (shows text of p v t)) answers all = shown_to book old new (refusal_of line) (command_at line) text of p v t answers all
-shows_right book old new line reply answers all = tt
+pub shows_right : (M : Meanings) (book : List Rule) (old new : Machine) (line : Line) (reply : Option ReplySeen) → Answers M book old line reply new → AllKept new → Shows reply new
+shows_right M book old new line (Some (shows text of p v t)) answers all = shown_to M book old new (refusal_of line) (command_at line) text of p v t answers all
+shows_right M book old new line reply answers all = tt

@@ -1,5 +1,6 @@
 -- The script of the demo, worked by hand: its lines, that each of them is a command, and that it is run in place of
 -- the source.
+use Rattle.pm_client.specs.Meanings.{unsaid}
 use Rattle.std.specs.Prelude.{ℕ, ◌≡◌, ◌++◌, Bool, true, false, List, Option, None, Some, Result, length, codes}
 use Rattle.std.specs.List.{list_all}
 use Rattle.std.specs.Option.{is_some}
@@ -21,10 +22,10 @@ pub record DemoIsRead : Type 0 where
   pub commands : list_all (λ line. is_some (command_of (text_of line))) (lines_of (demo_text 8)) ≡ true
   -- with a number the demo's lines are run, and nothing is read of the source; without one the source's are
   pub source_stays : (said : WordsSeen) (w : World) (outcome : Result Bool RunFail)
-      → RanScript (Some 3) said w outcome → w.left ≡ w.script
+      → RanScript unsaid (Some 3) said w outcome → w.left ≡ w.script
   pub demo_runs : (said : WordsSeen) (w : World) (outcome : Result Bool RunFail)
-      → RanScript (Some 3) said w outcome
+      → RanScript unsaid (Some 3) said w outcome
       → (left : Option (List ℕ))
-      × RanBook said (record w { script = Some (demo_text 3); left = left }) outcome
+      × RanBook unsaid said (record w { script = Some (demo_text 3); left = left }) outcome
   pub source_runs : (said : WordsSeen) (w : World) (outcome : Result Bool RunFail)
-      → RanScript None said w outcome → RanBook said w outcome
+      → RanScript unsaid None said w outcome → RanBook unsaid said w outcome

@@ -1,5 +1,6 @@
 -- How a run of the program ended, and what the sink took until then.
 use Rattle.std.specs.Prelude.{ℕ, ◌≡◌, ◌+◌, ◌<◌, ◌≤◌, ◌⊎◌, Bool, true, false, Option, Some, None, IfSome, List, [], ◌∷◌, ◌++◌, drop, if◌then◌else◌, length, take, Result, Ok, Err}
+use Rattle.pm_client.specs.Meanings.{Meanings}
 use Rattle.pm_client.specs.Starts.{Clients}
 use Rattle.pm_lines.specs.Coming.{most_ahead}
 use Rattle.pm_lines.specs.Whole.{whole_lines}
@@ -57,18 +58,18 @@ GainsWithin old new front piece =
     IfSome old (λ had. (n : ℕ) × (n < length piece) × (new ≡ Some (had ++ front ++ take n piece)))
 
 -- the line is answered, its reply is told if it has one, and whether that is a refusal
-pub record AnswersOne (book : List Rule) (trace : Bool) (had has : Option (List ℕ)) (old : Machine)
+pub record AnswersOne (m : Meanings) (book : List Rule) (trace : Bool) (had has : Option (List ℕ)) (old : Machine)
     (line : Line) (some_refused : Bool) (new : Machine) : Type 0 where
   pub reply : Option ReplySeen
-  pub answers : Answers book old line reply new
+  pub answers : Answers m book old line reply new
   pub told : GainsTold had has (text_if trace reply)
   pub refusal : some_refused ≡ is_refused reply
 
 -- all lines are answered, each reply is told, and whether some is a refusal
-pub record AnsweredAll (book : List Rule) (trace : Bool) (had has : Option (List ℕ)) (some_refused : Bool)
-    (old : Machine) (lines : List Line) (new : Machine) : Type 0 where
+pub record AnsweredAll (m : Meanings) (book : List Rule) (trace : Bool) (had has : Option (List ℕ))
+    (some_refused : Bool) (old : Machine) (lines : List Line) (new : Machine) : Type 0 where
   pub replies : List (Option ReplySeen)
-  pub run : Run book old lines replies new
+  pub run : Run m book old lines replies new
   pub told : GainsTold had has (replies_text trace replies)
   pub refusal : some_refused ≡ any_refused replies
 
@@ -79,7 +80,7 @@ bytes_in (line ∷ lines) = length line.bytes + (if line.ended then 1 else 0) + 
 
 -- the sink failed in a reply: the replies before it are told, no line after it was answered, and of those that were
 -- read no more bytes are there than one read takes, so that each reply is written before more is read
-pub record BrokeOff (book : List Rule) (trace : Bool) (had has : Option (List ℕ)) (old : Machine)
+pub record BrokeOff (m : Meanings) (book : List Rule) (trace : Bool) (had has : Option (List ℕ)) (old : Machine)
     (lines : List Line) (new : Machine) : Type 0 where
   pub first : List Line
   pub line : Line
@@ -88,44 +89,44 @@ pub record BrokeOff (book : List Rule) (trace : Bool) (had has : Option (List �
   pub ahead : bytes_in others ≤ most_ahead
   pub replies : List (Option ReplySeen)
   pub reply : ReplySeen
-  pub run : Run book old (first ++ line ∷ []) (replies ++ Some reply ∷ []) new
+  pub run : Run m book old (first ++ line ∷ []) (replies ++ Some reply ∷ []) new
   pub told : GainsWithin had has (replies_text trace replies) (text_of_reply trace reply)
 
 -- the line is answered in part: first events of its command occurred; or wholly, and its reply is not told
-abbrev pub InHand : List Rule → Machine → Line → Machine → Type 0
-InHand book old line new =
-    ((command : Spoken) × (command_at line ≡ Some command) × StepInPart book old command new)
-    ⊎ ((reply : ReplySeen) × Answers book old line (Some reply) new)
+abbrev pub InHand : Meanings → List Rule → Machine → Line → Machine → Type 0
+InHand m book old line new =
+    ((command : Spoken) × (command_at line ≡ Some command) × StepInPart m book old command new)
+    ⊎ ((reply : ReplySeen) × Answers m book old line (Some reply) new)
 
 -- nothing more happened, or the next line was in hand
-abbrev pub NextInHand : List Rule → Machine → List Line → Machine → Type 0
-NextInHand book old [] new = Stays old new
-NextInHand book old (line ∷ others) new = Stays old new ⊎ InHand book old line new
+abbrev pub NextInHand : Meanings → List Rule → Machine → List Line → Machine → Type 0
+NextInHand m book old [] new = Stays old new
+NextInHand m book old (line ∷ others) new = Stays old new ⊎ InHand m book old line new
 
 -- memory ran out: first lines are answered, maybe none or all, and each reply to them is told; the next line was in
 -- hand
-pub record Stopped (book : List Rule) (trace : Bool) (had has : Option (List ℕ)) (old : Machine)
+pub record Stopped (m : Meanings) (book : List Rule) (trace : Bool) (had has : Option (List ℕ)) (old : Machine)
     (lines : List Line) (new : Machine) : Type 0 where
   pub first : List Line
   pub others : List Line
   pub whole : lines ≡ first ++ others
   pub replies : List (Option ReplySeen)
   pub mid : Machine
-  pub run : Run book old first replies mid
+  pub run : Run m book old first replies mid
   pub told : GainsTold had has (replies_text trace replies)
-  pub hand : NextInHand book mid others new
+  pub hand : NextInHand m book mid others new
 
 -- the lines came to this outcome
-abbrev pub HasOutcome : List Rule → Bool → Option (List ℕ) → Option (List ℕ) → Machine → List Line
+abbrev pub HasOutcome : Meanings → List Rule → Bool → Option (List ℕ) → Option (List ℕ) → Machine → List Line
     → Result Bool RunFail → Machine → Type 0
-HasOutcome book trace had has old lines (Ok some_refused) new =
-    AnsweredAll book trace had has some_refused old lines new
-HasOutcome book trace had has old lines (Err why.SourceFault) new =
-    (some_refused : Bool) × AnsweredAll book trace had has some_refused old lines new
-HasOutcome book trace had has old lines (Err why.SinkFault) new = BrokeOff book trace had has old lines new
-HasOutcome book trace had has old lines (Err why.Memory) new = Stopped book trace had has old lines new
-HasOutcome book trace had has old lines (Err why.TooLong) new =
-    (some_refused : Bool) × AnsweredAll book trace had has some_refused old lines new
+HasOutcome m book trace had has old lines (Ok some_refused) new =
+    AnsweredAll m book trace had has some_refused old lines new
+HasOutcome m book trace had has old lines (Err why.SourceFault) new =
+    (some_refused : Bool) × AnsweredAll m book trace had has some_refused old lines new
+HasOutcome m book trace had has old lines (Err why.SinkFault) new = BrokeOff m book trace had has old lines new
+HasOutcome m book trace had has old lines (Err why.Memory) new = Stopped m book trace had has old lines new
+HasOutcome m book trace had has old lines (Err why.TooLong) new =
+    (some_refused : Bool) × AnsweredAll m book trace had has some_refused old lines new
 
 -- all of the script was read, and is no longer than the most; or first bytes of it, no more than the most, and of
 -- these the lines that an LF ended
@@ -182,44 +183,44 @@ pub record FromNoObjects (w : World) (Ran : Machine → Machine → Type 0) : Ty
   pub counts : end.store.faults ≡ w.counts
 
 -- from a machine without objects the lines that were read came to this outcome
-abbrev pub Ran : List Rule → Bool → World → Result Bool RunFail → Type 0
-Ran book trace w outcome = (lines : List Line) × IsRead w.script w.left outcome lines
-    × FromNoObjects w (λ start end. HasOutcome book trace w.had w.has start lines outcome end)
+abbrev pub Ran : Meanings → List Rule → Bool → World → Result Bool RunFail → Type 0
+Ran m book trace w outcome = (lines : List Line) × IsRead w.script w.left outcome lines
+    × FromNoObjects w (λ start end. HasOutcome m book trace w.had w.has start lines outcome end)
 
 -- so it was with the book that the words name, traced where they say so
-abbrev pub RanBook : WordsSeen → World → Result Bool RunFail → Type 0
-RanBook said w outcome = (book : List Rule) × IsBook said.rules w.before w.files book
-    × Ran book said.trace w outcome
+abbrev pub RanBook : Meanings → WordsSeen → World → Result Bool RunFail → Type 0
+RanBook m said w outcome = (book : List Rule) × IsBook said.rules w.before w.files book
+    × Ran m book said.trace w outcome
 
 -- The lines are those of the source; or of the demo of this number, and of the source nothing was read.
-abbrev pub RanScript : Option ℕ → WordsSeen → World → Result Bool RunFail → Type 0
-RanScript None said w outcome = RanBook said w outcome
-RanScript (Some n) said w outcome = (w.left ≡ w.script) × (left : Option (List ℕ))
-    × RanBook said (record w { script = Some (demo_text n); left = left }) outcome
+abbrev pub RanScript : Meanings → Option ℕ → WordsSeen → World → Result Bool RunFail → Type 0
+RanScript m None said w outcome = RanBook m said w outcome
+RanScript m (Some n) said w outcome = (w.left ≡ w.script) × (left : Option (List ℕ))
+    × RanBook m said (record w { script = Some (demo_text n); left = left }) outcome
 
 -- so it was with the script that the words say
-abbrev pub RanWords : WordsSeen → World → Result Bool RunFail → Type 0
-RanWords said w outcome = RanScript said.demo said w outcome
+abbrev pub RanWords : Meanings → WordsSeen → World → Result Bool RunFail → Type 0
+RanWords m said w outcome = RanScript m said.demo said w outcome
 
 -- nothing was read, nothing was told, no client was started, and no file was written
 abbrev pub DidNotRun : World → Type 0
 DidNotRun w = (w.left ≡ w.script) × (w.has ≡ w.had) × (w.after ≡ w.before) × FilesStay w.files w.kept
 
 -- so a run with this status ended; memory may have run out before it
-abbrev pub Ended : WordsSeen → Status → World → Type 0
-Ended said Answered w = RanWords said w (Ok false)
-Ended said SomeRefused w = RanWords said w (Ok true)
-Ended said SourceFault w = RanWords said w (Err why.SourceFault)
-Ended said SinkFault w = RanWords said w (Err why.SinkFault)
-Ended said OutOfMemory w = DidNotRun w ⊎ RanWords said w (Err why.Memory)
-Ended said TooLong w = RanWords said w (Err why.TooLong)
-Ended said BadBook w = DidNotRun w
-Ended said BadWords w = DidNotRun w
+abbrev pub Ended : Meanings → WordsSeen → Status → World → Type 0
+Ended m said Answered w = RanWords m said w (Ok false)
+Ended m said SomeRefused w = RanWords m said w (Ok true)
+Ended m said SourceFault w = RanWords m said w (Err why.SourceFault)
+Ended m said SinkFault w = RanWords m said w (Err why.SinkFault)
+Ended m said OutOfMemory w = DidNotRun w ⊎ RanWords m said w (Err why.Memory)
+Ended m said TooLong w = RanWords m said w (Err why.TooLong)
+Ended m said BadBook w = DidNotRun w
+Ended m said BadWords w = DidNotRun w
 
 -- the same, where the words say something; else it did not run
-abbrev pub EndedBy : Option WordsSeen → Status → World → Type 0
-EndedBy None status w = DidNotRun w
-EndedBy (Some said) status w = Ended said status w
+abbrev pub EndedBy : Meanings → Option WordsSeen → Status → World → Type 0
+EndedBy m None status w = DidNotRun w
+EndedBy m (Some said) status w = Ended m said status w
 
 -- with this status it did not run
 abbrev pub IsUnrun : Status → Type 0

@@ -14,6 +14,7 @@ use Rattle.pm_script.specs.declared.refusal.Refusal.{Refusal}
 use Rattle.pm_script.specs.declared.refusal.Refusal.TheVariants.{BadCommand, LineTooLong}
 use Rattle.pm_shell.specs.Chosen.{IsBook, IsRefusedBook, has_standard_name, kinds_of}
 use Rattle.pm_shell.specs.Ends.{IsRead}
+use Rattle.pm_client.specs.Meanings.{unsaid}
 use Rattle.pm_machine.specs.Run.{AnswersTo, refusal_of}
 use Rattle.pm_shell.specs.declared.status.RunFail.TheVariants.{SinkFault, SourceFault, TooLong}
 
@@ -55,11 +56,11 @@ pub record LinesAreRefused : Type 0 where
   pub short : refusal_of (ended_line (110 ∷ [])) ≡ BadCommand
   -- for this reason, and nothing is changed
   pub same : (book : List Rule) (old : Machine) (why : Refusal)
-      → AnswersTo book old why None (Some (refused why nothing)) old
+      → AnswersTo unsaid book old why None (Some (refused why nothing)) old
   pub not_other : (book : List Rule) (old new : Machine)
-      → ¬ (AnswersTo book old LineTooLong None (Some (refused BadCommand nothing)) new)
+      → ¬ (AnswersTo unsaid book old LineTooLong None (Some (refused BadCommand nothing)) new)
   pub not_silent : (book : List Rule) (old new : Machine) (why : Refusal)
-      → ¬ (AnswersTo book old why None None new)
+      → ¬ (AnswersTo unsaid book old why None None new)
 
 pub record BooksAreChosen : Type 0 where
   pub standard : (clients : Clients) (files : Option (List (List ℕ × List ℕ)))

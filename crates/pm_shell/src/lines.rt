@@ -1,5 +1,6 @@
 // Lines answered as they come.
 
+ghost use Rattle.pm_client.specs.Meanings.{Narrows, meanings};
 ghost use Rattle.pm_machine.specs.Sessions.{MakesNamed, book_of, machine_at};
 ghost use Rattle.pm_machine.specs.Laws.{AllStand};
 ghost use Rattle.pm_machine.specs.Machines.{Stays};
@@ -45,17 +46,21 @@ fn answer_line<F: Store>(
     line: &Line<'_>,
     store: &mut F,
 ) -> Result<Option<Reply>, AllocError>
-    ensures answers { IfOk result (λ r. Answers (book_of session.old)
+    ensures answers { IfOk result (λ r. Answers
+        (meanings tally MayPut MayFail clients.old.items) (book_of session.old)
         (machine_at session.old (map tally clients.old.items) (F.files store.old) (F.faults store.old)) line.now (option_map seen r)
         (machine_at session.new (map tally clients.new.items) (F.files store.new) (F.faults store.new))) }
     ensures part { OnErr result (
         Stays (machine_at session.old (map tally clients.old.items) (F.files store.old) (F.faults store.old))
         (machine_at session.new (map tally clients.new.items) (F.files store.new) (F.faults store.new))
-        ⊎ InHand (book_of session.old)
+        ⊎ InHand
+        (meanings tally MayPut MayFail clients.old.items) (book_of session.old)
         (machine_at session.old (map tally clients.old.items) (F.files store.old) (F.faults store.old)) line.now
         (machine_at session.new (map tally clients.new.items) (F.files store.new) (F.faults store.new))) }
     ensures book { book_of session.new ≡ book_of session.old }
     ensures store_count { F.faults store.old ≤ F.faults store.new }
+    ensures narrows { Narrows (meanings tally MayPut MayFail clients.old.items)
+        (meanings tally MayPut MayFail clients.new.items) }
 {
     match command_at(alloc, line)? {
         None => Ok(Some(refused_line(alloc, line))),
@@ -92,12 +97,14 @@ fn answer_next<K: Sink, F: Store>(
     sink: &mut K,
     store: &mut F,
 ) -> Result<bool, RunFail>
-    ensures told { IfOk result (λ r. AnswersOne (book_of session.old) trace
+    ensures told { IfOk result (λ r. AnswersOne
+        (meanings tally MayPut MayFail clients.old.items) (book_of session.old) trace
         (K.taken sink.old) (K.taken sink.new)
         (machine_at session.old (map tally clients.old.items) (F.files store.old) (F.faults store.old)) line.now r
         (machine_at session.new (map tally clients.new.items) (F.files store.new) (F.faults store.new))) }
     ensures part { IsErrOf result RunFail.SinkFault → (reply : ReplySeen)
-        × Answers (book_of session.old)
+        × Answers
+        (meanings tally MayPut MayFail clients.old.items) (book_of session.old)
         (machine_at session.old (map tally clients.old.items) (F.files store.old) (F.faults store.old)) line.now (Some reply)
         (machine_at session.new (map tally clients.new.items) (F.files store.new) (F.faults store.new))
         × GainsPart (K.taken sink.old) (K.taken sink.new) (text_of_reply trace reply) }
@@ -108,12 +115,15 @@ fn answer_next<K: Sink, F: Store>(
     ensures hand { IsErrOf result RunFail.Memory →
         Stays (machine_at session.old (map tally clients.old.items) (F.files store.old) (F.faults store.old))
         (machine_at session.new (map tally clients.new.items) (F.files store.new) (F.faults store.new))
-        ⊎ InHand (book_of session.old)
+        ⊎ InHand
+        (meanings tally MayPut MayFail clients.old.items) (book_of session.old)
         (machine_at session.old (map tally clients.old.items) (F.files store.old) (F.faults store.old)) line.now
         (machine_at session.new (map tally clients.new.items) (F.files store.new) (F.faults store.new)) }
     ensures book { book_of session.new ≡ book_of session.old }
     ensures never_falls { K.faults sink.old ≤ K.faults sink.new }
     ensures store_count { F.faults store.old ≤ F.faults store.new }
+    ensures narrows { Narrows (meanings tally MayPut MayFail clients.old.items)
+        (meanings tally MayPut MayFail clients.new.items) }
 {
     match answer_line(alloc, session, clients, line, store)? {
         None => Ok(false),
@@ -164,7 +174,8 @@ pub(crate) fn answer_lines<S: Source, K: Sink, F: Store>(
         (machine_at session.old (map tally clients.old.items) (F.files store.old) (F.faults store.old)) }
     ensures outcome { (lines : List Line)
         × IsRead (S.left source.old) (S.left source.new) result lines
-        × HasOutcome (book_of session.old) trace (K.taken sink.old) (K.taken sink.new)
+        × HasOutcome
+        (meanings tally MayPut MayFail clients.old.items) (book_of session.old) trace (K.taken sink.old) (K.taken sink.new)
         (machine_at session.old (map tally clients.old.items) (F.files store.old) (F.faults store.old)) lines result
         (machine_at session.new (map tally clients.new.items) (F.files store.new) (F.faults store.new)) }
     ensures source_fault { IsErrOf result RunFail.SourceFault →

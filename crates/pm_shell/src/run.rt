@@ -1,5 +1,6 @@
 // A run of the program: words, a book, and a script from bytes to bytes.
 
+ghost use Rattle.pm_client.specs.Meanings.{meanings};
 ghost use Rattle.pm_shell.specs.Ends.{Ended, EndedBy, IsBadBook, IsUnrun, Ran};
 ghost use Rattle.pm_store.specs.Outside.{Rose};
 ghost use Rattle.pm_words.specs.Spoken.{seen_words};
@@ -28,18 +29,19 @@ fn run_script<S: Source, K: Sink, F: Store>(
     sink: &mut K,
     store: &mut F,
 ) -> Result<bool, RunFail>
-    ensures run { Ran book trace (record {
-      script = S.left source.old;
-      left = S.left source.new;
-      had = K.taken sink.old;
-      has = K.taken sink.new;
-      files = F.files store.old;
-      kept = F.files store.new;
-      counted = F.faults store.old;
-      counts = F.faults store.new;
-      before = map tally clients.old.items;
-      after = map tally clients.new.items;
-    }) result }
+    ensures run { Ran (meanings tally MayPut MayFail clients.old.items)
+        book trace (record {
+          script = S.left source.old;
+          left = S.left source.new;
+          had = K.taken sink.old;
+          has = K.taken sink.new;
+          files = F.files store.old;
+          kept = F.files store.new;
+          counted = F.faults store.old;
+          counts = F.faults store.new;
+          before = map tally clients.old.items;
+          after = map tally clients.new.items;
+        }) result }
     ensures source_fault { IsErrOf result RunFail.SourceFault →
         Rose (S.faults source.old) (S.faults source.new) }
     ensures sink_fault { IsErrOf result RunFail.SinkFault →
@@ -65,18 +67,19 @@ fn run_text<K: Sink, F: Store>(
     sink: &mut K,
     store: &mut F,
 ) -> Result<bool, RunFail>
-    ensures run { (left : Option (List ℕ)) × Ran book trace (record {
-      script = Some (string_bytes text);
-      left = left;
-      had = K.taken sink.old;
-      has = K.taken sink.new;
-      files = F.files store.old;
-      kept = F.files store.new;
-      counted = F.faults store.old;
-      counts = F.faults store.new;
-      before = map tally clients.old.items;
-      after = map tally clients.new.items;
-    }) result }
+    ensures run { (left : Option (List ℕ)) × Ran (meanings tally MayPut MayFail clients.old.items)
+        book trace (record {
+          script = Some (string_bytes text);
+          left = left;
+          had = K.taken sink.old;
+          has = K.taken sink.new;
+          files = F.files store.old;
+          kept = F.files store.new;
+          counted = F.faults store.old;
+          counts = F.faults store.new;
+          before = map tally clients.old.items;
+          after = map tally clients.new.items;
+        }) result }
     ensures no_source_fault { ¬ (IsErrOf result RunFail.SourceFault) }
     ensures sink_fault { IsErrOf result RunFail.SinkFault →
         Rose (K.faults sink.old) (K.faults sink.new) }
@@ -97,18 +100,19 @@ fn run_words<S: Source, K: Sink, F: Store>(
     store: &mut F,
 ) -> Status
     ensures words { result ≢ Status.BadWords }
-    ensures run { Ended (seen_words said.now) result (record {
-      script = S.left source.old;
-      left = S.left source.new;
-      had = K.taken sink.old;
-      has = K.taken sink.new;
-      files = F.files store.old;
-      kept = F.files store.new;
-      counted = F.faults store.old;
-      counts = F.faults store.new;
-      before = map tally clients.old.items;
-      after = map tally clients.new.items;
-    }) }
+    ensures run { Ended (meanings tally MayPut MayFail clients.old.items)
+        (seen_words said.now) result (record {
+          script = S.left source.old;
+          left = S.left source.new;
+          had = K.taken sink.old;
+          has = K.taken sink.new;
+          files = F.files store.old;
+          kept = F.files store.new;
+          counted = F.faults store.old;
+          counts = F.faults store.new;
+          before = map tally clients.old.items;
+          after = map tally clients.new.items;
+        }) }
     ensures bad_book { result ≡ Status.BadBook → IsBadBook (Some (seen_words said.now))
         (map tally clients.old.items) (F.files store.old)
         (F.faults store.old) (F.faults store.new) }
@@ -175,18 +179,19 @@ pub fn polymake<S: Source, K: Sink, F: Store>(
     ensures words { result ≡ Status.BadWords → words_of (map string_bytes words.now) ≡ None }
     ensures bad_words { words_of (map string_bytes words.now) ≡ None →
         (result ≡ Status.BadWords) ⊎ (result ≡ Status.OutOfMemory) }
-    ensures run { EndedBy (words_of (map string_bytes words.now)) result (record {
-      script = S.left source.old;
-      left = S.left source.new;
-      had = K.taken sink.old;
-      has = K.taken sink.new;
-      files = F.files store.old;
-      kept = F.files store.new;
-      counted = F.faults store.old;
-      counts = F.faults store.new;
-      before = map tally clients.old.items;
-      after = map tally clients.new.items;
-    }) }
+    ensures run { EndedBy (meanings tally MayPut MayFail clients.old.items)
+        (words_of (map string_bytes words.now)) result (record {
+          script = S.left source.old;
+          left = S.left source.new;
+          had = K.taken sink.old;
+          has = K.taken sink.new;
+          files = F.files store.old;
+          kept = F.files store.new;
+          counted = F.faults store.old;
+          counts = F.faults store.new;
+          before = map tally clients.old.items;
+          after = map tally clients.new.items;
+        }) }
     ensures bad_book { result ≡ Status.BadBook →
         IsBadBook (words_of (map string_bytes words.now)) (map tally clients.old.items)
         (F.files store.old) (F.faults store.old) (F.faults store.new) }

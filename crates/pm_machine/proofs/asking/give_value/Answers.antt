@@ -3,7 +3,7 @@ use Rattle.pm_telling.specs.Telling.{names_told}
 use Rattle.std.proofs.Common.{Some, ap, false, refl, rules, sym, true≢false, ◌∙◌, ◌≡◌}
 use Rattle.std.specs.Option.{is_some}
 use Rattle.std.specs.Prelude.{None}
-use Rattle.pm_machine.proofs.Names.{beside_named, ended_so, found_held, gives_shown, later_is, rounds_named, whole_is_part}
+use Rattle.pm_machine.proofs.Names.{beside_named, ended_so, found_held, gives_shown, later_is, part_of, rounds_named, whole_is_part}
 use Rattle.pm_machine.specs.Steps.{Gives}
 use Rattle.pm_object.specs.State.{read_at, value_of}
 use Rattle.pm_script.specs.Replies.{names_seen, seen}
@@ -45,3 +45,6 @@ returns-in-Crowded-clause-gives g c =
     let names : names_seen c.in_ok-names.names ≡ names_told c.args.book.now c.ensure.new.object.state = rw c.rules.ensures.value at c.in_ok-names.ensures in
     rw c.refused_after-in-Crowded.ensures
     (Gives.is_crowded (ended_so _ c.args.sub _ _ _ _ _ c.of.ensures.value (rw c.in-Crowded.is at c.in_ok-ending.ensures.ok)) (beside_named false c.args.book.now _ _ c.args.object.now.state c.ensure.new.object.state names rounds))
+
+pub returns-in_err-ending-clause-err : goal.returns-in_err-ending-clause-err
+returns-in_err-ending-clause-err g c = part_of c.from_residual.result _ c.args.sub _ c.args.p _ _ c.of.ensures.value c.in_err-ending.ensures.err

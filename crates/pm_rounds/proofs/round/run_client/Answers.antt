@@ -14,3 +14,9 @@ returns-clause-sound g c = rw c.view-view.ensures at c.run_first.ensures.sound
 
 pub returns-clause-failed : goal.returns-clause-failed
 returns-clause-failed g c = rw c.view-view.ensures at c.run_first.ensures.failed
+
+pub returns-clause-fails : goal.returns-clause-fails
+returns-clause-fails g c = rw c.view-view.ensures at c.run_first.ensures.fails
+
+pub returns-clause-gives : goal.returns-clause-gives
+returns-clause-gives g c = rw c.view-view.ensures at c.run_first.ensures.gives

@@ -7,4 +7,4 @@ use Rattle.pm_shell.proofs.lines.answer_line.Goals as goal
 
 pub returns-in_err-step-in-Some-clause-part : goal.returns-in_err-step-in-Some-clause-part
 returns-in_err-step-in-Some-clause-part g c =
-    hand_of _ _ _ _ c.args.line.now _ (c.in_ok-command_at.ensures.command ∙ ap (option_map spoken) c.in-Some.is) c.in_err-step-in-Some.ensures.part
+    hand_of _ _ _ _ _ c.args.line.now _ (c.in_ok-command_at.ensures.command ∙ ap (option_map spoken) c.in-Some.is) c.in_err-step-in-Some.ensures.part

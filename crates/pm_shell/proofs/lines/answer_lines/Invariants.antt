@@ -1,6 +1,7 @@
 -- First lines were read and answered, and each reply is told.
 use Rattle.std.proofs.Common.{length, if◌then◌else◌, ◌+◌, ◌-◌, ◌≡◌, ◌≤◌}
 use Rattle.std.specs.Prelude.{map}
+use Rattle.pm_client.specs.Meanings.{Narrows, meanings}
 use Rattle.pm_machine.specs.Sessions.{book_of, machine_at}
 use Rattle.pm_shell.proofs.Came.{Going}
 use Rattle.pm_shell.proofs.lines.answer_lines.Given as goal
@@ -10,7 +11,9 @@ use Rattle.pm_limits.specs.Limits.{most_script_bytes}
 abbrev pub invariant-loop-reader : goal.invariant-loop-reader
 invariant-loop-reader g l = record {
   book : book_of l.session ≡ book_of l.fn.session;
-  going : Going (book_of l.fn.session) l.fn.trace (g.S.Source.left l.fn.source) (g.S.Source.left l.source) (g.K.Sink.taken l.fn.sink) (g.K.Sink.taken l.sink)
+  narrows : Narrows (meanings (λ b. (goal.Client-dyn g (b.vtable, b.value)).tally b.value) (λ b. (goal.Client-dyn g (b.vtable, b.value)).MayPut b.value) (λ b. (goal.Client-dyn g (b.vtable, b.value)).MayFail b.value) l.fn.clients.items)
+      (meanings (λ b. (goal.Client-dyn g (b.vtable, b.value)).tally b.value) (λ b. (goal.Client-dyn g (b.vtable, b.value)).MayPut b.value) (λ b. (goal.Client-dyn g (b.vtable, b.value)).MayFail b.value) l.clients.items);
+  going : Going (meanings (λ b. (goal.Client-dyn g (b.vtable, b.value)).tally b.value) (λ b. (goal.Client-dyn g (b.vtable, b.value)).MayPut b.value) (λ b. (goal.Client-dyn g (b.vtable, b.value)).MayFail b.value) l.fn.clients.items) (book_of l.fn.session) l.fn.trace (g.S.Source.left l.fn.source) (g.S.Source.left l.source) (g.K.Sink.taken l.fn.sink) (g.K.Sink.taken l.sink)
       (machine_at l.fn.session (map (λ b. (goal.Client-dyn g (b.vtable, b.value)).tally b.value) l.fn.clients.items) (g.F.Store.files l.fn.store) (g.F.Store.faults l.fn.store))
       l.reader l.some_refused
       (machine_at l.session (map (λ b. (goal.Client-dyn g (b.vtable, b.value)).tally b.value) l.clients.items) (g.F.Store.files l.store) (g.F.Store.faults l.store));

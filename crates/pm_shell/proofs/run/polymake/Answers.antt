@@ -9,4 +9,4 @@ returns-in-Ok-clause-bad_book g c =
     λ e. bad_for _ _ _ (g.F.Store.files c.args.store.now) (g.F.Store.faults c.args.store.now) (g.F.Store.faults c.run_words.new.store) c.in-Ok.ensures.said (c.run_words.ensures.bad_book e)
 
 pub returns-in-Err-Memory-clause-run : goal.returns-in-Err-Memory-clause-run
-returns-in-Err-Memory-clause-run g c = not_run _ _ (refl, refl, refl, files_stay _)
+returns-in-Err-Memory-clause-run g c = not_run _ _ _ (refl, refl, refl, files_stay _)

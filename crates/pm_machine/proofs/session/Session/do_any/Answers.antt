@@ -8,10 +8,10 @@ use Rattle.pm_machine.proofs.session.Session.do_any.Goals as goal
 
 pub returns-else-is_on_files-clause-step : goal.returns-else-is_on_files-clause-step
 returns-else-is_on_files-clause-step g c =
-    answered_beside seen (record { files = g.F.Store.files c.args.store.now; faults = g.F.Store.faults c.args.store.now }) (book_of c.args.self.now) _ _ (spoken c.args.c) c.do_step.result
+    answered_beside _ seen (record { files = g.F.Store.files c.args.store.now; faults = g.F.Store.faults c.args.store.now }) (book_of c.args.self.now) _ _ (spoken c.args.c) c.do_step.result
     (sym c.is_on_files.ensures ∙ c.if-is_on_files.false) c.do_step.ensures.step
 
 pub returns-else-is_on_files-clause-part : goal.returns-else-is_on_files-clause-part
 returns-else-is_on_files-clause-part g c =
-    broken_beside (record { files = g.F.Store.files c.args.store.now; faults = g.F.Store.faults c.args.store.now }) (book_of c.args.self.now) _ _ (spoken c.args.c) c.do_step.result
+    broken_beside _ (record { files = g.F.Store.files c.args.store.now; faults = g.F.Store.faults c.args.store.now }) (book_of c.args.self.now) _ _ (spoken c.args.c) c.do_step.result
     (sym c.is_on_files.ensures ∙ c.if-is_on_files.false) c.do_step.ensures.part

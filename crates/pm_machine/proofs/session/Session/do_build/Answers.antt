@@ -39,28 +39,28 @@ pub returns-in_err-names-clause-part : goal.returns-in_err-names-clause-part
 returns-in_err-names-clause-part g c =
     on_err_of c.from_residual-in_err-names.result (
       inr ((subst (IsNewName (shelf (machine_of c.args.self.now []))) c.as_str.ensures.value c.in_default.ensures.none), (of_row _ (builder_of c.args.what.now) (machine_of c.args.self.now []) (operands_of c.args.what.now) (c.row_of-row.ensures.of ∙ ap (λ z. (row_of z).of) c.builder.ensures) (sym c.are_of.ensures ∙ c.if-not-are_of.false))),
-      to_in_part _ _ c.in_ok-ending.ending _ _ _ _ (from_nothing _ _ _ _ c.in_ok-ending.ending _ _ _ _ refl (λ i. c.in_ok-ending.ending) (ap (map round_seen) c.new-rounds.ensures.items) c.in_ok-ending.ensures.ok) (stays_itself _),
+      to_in_part _ _ _ c.in_ok-ending.ending _ _ _ _ (from_nothing _ _ _ _ c.in_ok-ending.ending _ _ _ _ refl (λ i. c.in_ok-ending.ending) (ap (map round_seen) c.new-rounds.ensures.items) c.in_ok-ending.ensures.ok) (stays_itself _),
     )
 
 pub build_read-requires-clause-read : goal.build_read-requires-clause-read
 build_read-requires-clause-read g c =
     let all = (from_nothing _ _ _ _ _ _ _ _ _ refl c.in-Found.is (ap (map round_seen) c.new-rounds.ensures.items) c.in_ok-ending.ensures.ok) in
-    reads_done (builder_of c.args.what.now) _ (operands_of c.args.what.now) _ _ _ all (of_row _ (builder_of c.args.what.now) (machine_of c.args.self.now []) (operands_of c.args.what.now) (c.row_of-row.ensures.of ∙ ap (λ z. (row_of z).of) c.builder.ensures) (sym c.are_of.ensures ∙ c.if-not-are_of.false))
+    reads_done _ (builder_of c.args.what.now) _ (operands_of c.args.what.now) _ _ _ all (of_row _ (builder_of c.args.what.now) (machine_of c.args.self.now []) (operands_of c.args.what.now) (c.row_of-row.ensures.of ∙ ap (λ z. (row_of z).of) c.builder.ensures) (sym c.are_of.ensures ∙ c.if-not-are_of.false))
 
 pub returns-in-Found-clause-step : goal.returns-in-Found-clause-step
 returns-in-Found-clause-step g c =
     let names : names_seen c.in_ok-names.names ≡ rules_told (book_of c.args.self.now) = (c.in_ok-names.ensures ∙ ap rules_told (c.rules.ensures.value ∙ c.ensure_operands.ensures.book)) in
     let all = (from_nothing _ _ _ _ _ _ _ _ _ refl c.in-Found.is (ap (map round_seen) c.new-rounds.ensures.items) c.in_ok-ending.ensures.ok) in
     let types = (of_row _ (builder_of c.args.what.now) (machine_of c.args.self.now []) (operands_of c.args.what.now) (c.row_of-row.ensures.of ∙ ap (λ z. (row_of z).of) c.builder.ensures) (sym c.are_of.ensures ∙ c.if-not-are_of.false)) in
-    build_answered seen c.build_read.result _ (builder_of c.args.what.now) (operands_of c.args.what.now) (string_bytes c.args.new) _ _ _ _ (machine_of c.ensure_operands.new.self []) (machine_of c.build_read.new.self []) (subst (IsNewName (shelf (machine_of c.args.self.now []))) c.as_str.ensures.value c.in_default.ensures.none) types all
-    (ap (λ z. record { rounds = map round_seen c.ensure_operands.new.rounds.items; names = z }) names) (of_its_type (builder_of c.args.what.now)) (reads_done (builder_of c.args.what.now) _ (operands_of c.args.what.now) _ _ _ all types) c.build_read.ensures.builds
+    build_answered _ seen c.build_read.result _ (builder_of c.args.what.now) (operands_of c.args.what.now) (string_bytes c.args.new) _ _ _ _ (machine_of c.ensure_operands.new.self []) (machine_of c.build_read.new.self []) (subst (IsNewName (shelf (machine_of c.args.self.now []))) c.as_str.ensures.value c.in_default.ensures.none) types all
+    (ap (λ z. record { rounds = map round_seen c.ensure_operands.new.rounds.items; names = z }) names) (of_its_type (builder_of c.args.what.now)) (reads_done _ (builder_of c.args.what.now) _ (operands_of c.args.what.now) _ _ _ all types) c.build_read.ensures.builds
 
 pub returns-in-Found-clause-part : goal.returns-in-Found-clause-part
 returns-in-Found-clause-part g c =
     let all = (from_nothing _ _ _ _ _ _ _ _ _ refl c.in-Found.is (ap (map round_seen) c.new-rounds.ensures.items) c.in_ok-ending.ensures.ok) in
     if_broken c.build_read.result (λ s. (
       inr ((subst (IsNewName (shelf (machine_of c.args.self.now []))) c.as_str.ensures.value c.in_default.ensures.none), (of_row _ (builder_of c.args.what.now) (machine_of c.args.self.now []) (operands_of c.args.what.now) (c.row_of-row.ensures.of ∙ ap (λ z. (row_of z).of) c.builder.ensures) (sym c.are_of.ensures ∙ c.if-not-are_of.false))),
-      all_in_part _ _ _ _ _ _ all (stays_with _ (machine_of c.ensure_operands.new.self []) (machine_of c.build_read.new.self []) s),
+      all_in_part _ _ _ _ _ _ _ all (stays_with _ (machine_of c.ensure_operands.new.self []) (machine_of c.build_read.new.self []) s),
     )) c.build_read.ensures.err
 
 pub returns-in-NoChain-clause-step : goal.returns-in-NoChain-clause-step

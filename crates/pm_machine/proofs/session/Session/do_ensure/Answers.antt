@@ -24,7 +24,7 @@ returns-clause-step g c =
     let w = written c.args.self.now.objects (c.get_mut.follows.lender o') _ name o o' c.as_str.ensures.value c.in-Some.ensures.value (c.get_mut.follows.holds o').1 (c.get_mut.follows.holds o').3 in
     let found : part_named o.state (option_map string_bytes c.args.obj.now.sub) ≡ Some (named_of o.state c.in-Some-place_in.sub) = sym c.place_in.ensures.named ∙ ap (option_map (named_of o.state)) c.in-Some-place_in.is in
     let named : asked_in o.state.of c.in-Some-place_in.sub (map string_bytes c.args.props.now) ≡ Some c.in-Some-asked_in.asked = ap (λ t. asked_in t c.in-Some-place_in.sub (map string_bytes c.args.props.now)) (sym c.of.ensures.value) ∙ sym c.asked_in.ensures ∙ c.in-Some-asked_in.is in
-    ensure_step w (option_map string_bytes c.args.obj.now.sub) c.in-Some-place_in.sub found (map string_bytes c.args.props.now) seen c.ensure_values.result c.args.self.now.book _ _ c.in-Some-asked_in.asked named c.ensure_values.ensures.made
+    ensure_step w (option_map string_bytes c.args.obj.now.sub) c.in-Some-place_in.sub found (map string_bytes c.args.props.now) _ seen c.ensure_values.result c.args.self.now.book _ _ c.in-Some-asked_in.asked named c.ensure_values.ensures.made
 
 pub returns-clause-part : goal.returns-clause-part
 returns-clause-part g c =
@@ -34,7 +34,7 @@ returns-clause-part g c =
     let w = written c.args.self.now.objects (c.get_mut.follows.lender o') _ name o o' c.as_str.ensures.value c.in-Some.ensures.value (c.get_mut.follows.holds o').1 (c.get_mut.follows.holds o').3 in
     let found : part_named o.state (option_map string_bytes c.args.obj.now.sub) ≡ Some (named_of o.state c.in-Some-place_in.sub) = sym c.place_in.ensures.named ∙ ap (option_map (named_of o.state)) c.in-Some-place_in.is in
     let named : asked_in o.state.of c.in-Some-place_in.sub (map string_bytes c.args.props.now) ≡ Some c.in-Some-asked_in.asked = ap (λ t. asked_in t c.in-Some-place_in.sub (map string_bytes c.args.props.now)) (sym c.of.ensures.value) ∙ sym c.asked_in.ensures ∙ c.in-Some-asked_in.is in
-    ensured_partly w (option_map string_bytes c.args.obj.now.sub) c.in-Some-place_in.sub found (map string_bytes c.args.props.now) c.ensure_values.result c.args.self.now.book _ _ c.in-Some-asked_in.asked named c.ensure_values.ensures.err
+    ensured_partly w (option_map string_bytes c.args.obj.now.sub) c.in-Some-place_in.sub found (map string_bytes c.args.props.now) _ c.ensure_values.result c.args.self.now.book _ _ c.in-Some-asked_in.asked named c.ensure_values.ensures.err
 
 pub returns-in_default-place_in-clause-step : goal.returns-in_default-place_in-clause-step
 returns-in_default-place_in-clause-step g c =

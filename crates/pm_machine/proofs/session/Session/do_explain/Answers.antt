@@ -2,6 +2,7 @@
 use Rattle.std.proofs.Common.{Some, ap, refl, sym, ◌∙◌, ◌≡◌}
 use Rattle.std.specs.Option.{option_map}
 use Rattle.std.specs.Prelude.{None, [], map, string_bytes}
+use Rattle.pm_client.specs.Meanings.{unsaid}
 use Rattle.pm_machine.proofs.Names.{explain_step, explain_unknown, explained_in_part, named_of, no_part, stays_with, written}
 use Rattle.pm_machine.specs.Steps.{asked_in, no_such_name, part_named, is_refused}
 use Rattle.pm_script.specs.Replies.{seen}
@@ -34,7 +35,7 @@ returns-clause-part g c =
     let w = written c.args.self.now.objects (c.get_mut.follows.lender o') _ name o o' c.as_str.ensures.value c.in-Some.ensures.value (c.get_mut.follows.holds o').1 (c.get_mut.follows.holds o').3 in
     let found : part_named o.state (option_map string_bytes c.args.obj.now.sub) ≡ Some (named_of o.state c.in-Some-place_in.sub) = sym c.place_in.ensures.named ∙ ap (option_map (named_of o.state)) c.in-Some-place_in.is in
     let named : asked_in o.state.of c.in-Some-place_in.sub (map string_bytes c.args.props.now) ≡ Some c.in-Some-asked_in.asked = ap (λ t. asked_in t c.in-Some-place_in.sub (map string_bytes c.args.props.now)) (sym c.of.ensures.value) ∙ sym c.asked_in.ensures ∙ c.in-Some-asked_in.is in
-    explained_in_part w (option_map string_bytes c.args.obj.now.sub) c.in-Some-place_in.sub found (map string_bytes c.args.props.now) c.explain_values.result c.args.self.now.book _ c.in-Some-asked_in.asked named c.explain_values.ensures.err
+    explained_in_part w (option_map string_bytes c.args.obj.now.sub) c.in-Some-place_in.sub found (map string_bytes c.args.props.now) unsaid c.explain_values.result c.args.self.now.book _ c.in-Some-asked_in.asked named c.explain_values.ensures.err
 
 pub returns-in_default-place_in-clause-step : goal.returns-in_default-place_in-clause-step
 returns-in_default-place_in-clause-step g c =

@@ -25,7 +25,7 @@ returns-clause-step g c =
     let w = written c.args.self.now.objects (c.get_mut.follows.lender o') _ name o o' c.as_str.ensures.value c.in-Some.ensures.value (c.get_mut.follows.holds o').1 (c.get_mut.follows.holds o').3 in
     let found : part_named o.state (option_map string_bytes c.args.obj.now.sub) ≡ Some (named_of o.state c.in-Some-place_in.sub) = sym c.place_in.ensures.named ∙ ap (option_map (named_of o.state)) c.in-Some-place_in.is in
     let named : property_named o.state.of c.in-Some-place_in.sub c.args.prop.now ≡ Some c.in-Some-property_named.p = ap (λ t. property_named t c.in-Some-place_in.sub c.args.prop.now) (sym c.of.ensures.value) ∙ sym c.property_named.ensures ∙ c.in-Some-property_named.is in
-    give_step w (option_map string_bytes c.args.obj.now.sub) c.in-Some-place_in.sub found c.args.prop.now seen c.give_value.result c.args.self.now.book _ _ c.in-Some-property_named.p _ named c.in_ok-name.ensures c.give_value.ensures.gives
+    give_step w (option_map string_bytes c.args.obj.now.sub) c.in-Some-place_in.sub found c.args.prop.now _ seen c.give_value.result c.args.self.now.book _ _ c.in-Some-property_named.p _ named c.in_ok-name.ensures c.give_value.ensures.gives
 
 pub returns-clause-part : goal.returns-clause-part
 returns-clause-part g c =
@@ -35,7 +35,7 @@ returns-clause-part g c =
     let w = written c.args.self.now.objects (c.get_mut.follows.lender o') _ name o o' c.as_str.ensures.value c.in-Some.ensures.value (c.get_mut.follows.holds o').1 (c.get_mut.follows.holds o').3 in
     let found : part_named o.state (option_map string_bytes c.args.obj.now.sub) ≡ Some (named_of o.state c.in-Some-place_in.sub) = sym c.place_in.ensures.named ∙ ap (option_map (named_of o.state)) c.in-Some-place_in.is in
     let named : property_named o.state.of c.in-Some-place_in.sub c.args.prop.now ≡ Some c.in-Some-property_named.p = ap (λ t. property_named t c.in-Some-place_in.sub c.args.prop.now) (sym c.of.ensures.value) ∙ sym c.property_named.ensures ∙ c.in-Some-property_named.is in
-    gave_in_part w (option_map string_bytes c.args.obj.now.sub) c.in-Some-place_in.sub found c.args.prop.now c.give_value.result c.args.self.now.book _ _ c.in-Some-property_named.p named c.give_value.ensures.err
+    gave_in_part w (option_map string_bytes c.args.obj.now.sub) c.in-Some-place_in.sub found c.args.prop.now _ c.give_value.result c.args.self.now.book _ _ c.in-Some-property_named.p named c.give_value.ensures.err
 
 pub returns-in_default-place_in-clause-step : goal.returns-in_default-place_in-clause-step
 returns-in_default-place_in-clause-step g c =

@@ -8,4 +8,4 @@ use Rattle.pm_machine.proofs.session.Session.do_step.Goals as goal
 
 pub returns-in-Build-clause-part : goal.returns-in-Build-clause-part
 returns-in-Build-clause-part g c =
-    part_as c.do_build.result _ (spoken c.args.c) (build_object (builder_of c.in-Build.what) (operands_of c.in-Build.what) (string_bytes c.in-Build.new)) _ _ (ap spoken c.in-Build.is) c.do_build.ensures.part
+    part_as _ c.do_build.result _ (spoken c.args.c) (build_object (builder_of c.in-Build.what) (operands_of c.in-Build.what) (string_bytes c.in-Build.new)) _ _ (ap spoken c.in-Build.is) c.do_build.ensures.part
