@@ -145,6 +145,7 @@ provenances_are_read = record {
   objective = λ m k t json. refl;
   dropped = λ m k t. refl;
   anew = λ m k t. refl;
+  new_itself = λ m k t. refl;
 }
 
 -- ---- files

@@ -109,6 +109,9 @@ pub record ProvenancesAreRead : Type 0 where
       → provenances_after (drop_object (codes "c")) (done t) m k ≡ k
   pub anew : (m : Machine) (k : Provenances) (t : Rounds)
       → provenances_after (new_object object_c (codes "Cone")) (done t) m k (codes "d") ≡ k (codes "d")
+  -- and that new object stands for its own values
+  pub new_itself : (m : Machine) (k : Provenances) (t : Rounds)
+      → provenances_after (new_object object_c (codes "Cone")) (done t) m k (codes "c") ≡ of_its_values
 
 -- an object that knows its dimension, and holds no more; one that holds INEQUALITIES too; and POINTS in 3 columns with
 -- INEQUALITIES in 4
