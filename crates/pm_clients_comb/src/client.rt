@@ -5,7 +5,7 @@ ghost use Rattle.pm_client.specs.declared.ClientFail.TheVariants.{Memory};
 ghost use Rattle.pm_clients_comb.specs.Incidence.{FindsIncidence, StaysInRange};
 ghost use Rattle.pm_standard.specs.Table.{standard_kind};
 ghost use Rattle.pm_standard.specs.declared.standard.StandardClient.TheVariants as client;
-ghost use Rattle.std.specs.Prelude.{false, IfErr, IsTrue, OnOk, [], true, ◌≡◌, map, ◌∷◌};
+ghost use Rattle.std.specs.Prelude.{false, IfErr, IsTrue, OnOk, [], true, ◌≡◌};
 
 use crate::sizes::{all_are, place_sizes, set_sizes};
 use pm_client::{ClientFail, counts_of, matrix_of, primitive_rows, put_value, sets_of, whole_of};
@@ -25,31 +25,6 @@ pub enum SetsWork {
     Simple,
     Simplicial,
     IncidenceWide,
-}
-
-impl SetsWork {
-    ghost use Rattle.pm_clients_comb.specs.Works.{sets_client};
-
-    /// Those of the standard clients, in the order of the standard book.
-    pub fn every() -> [SetsWork; 5]
-        ensures { map sets_client result ≡ client.Incidence ∷ client.VertexSizes ∷ client.FacetSizes
-            ∷ client.Simple ∷ client.Simplicial ∷ [] }
-    {
-        [
-            Self::Incidence,
-            Self::VertexSizes,
-            Self::FacetSizes,
-            Self::Simple,
-            Self::Simplicial,
-        ]
-    }
-
-    /// That of the client that answers by wide numbers.
-    pub fn wide() -> [SetsWork; 1]
-        ensures { map sets_client result ≡ client.IncidenceWide ∷ [] }
-    {
-        [Self::IncidenceWide]
-    }
 }
 
 /// The clients that find sets, their sizes, and what these show.

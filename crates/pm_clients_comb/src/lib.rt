@@ -7,7 +7,7 @@ ghost use Rattle.pm_clients_comb.specs.Examples.{IncidenceIsRead, SizesAreRead};
 mod client;
 mod sizes;
 
-pub use client::{SetsClient, SetsWork};
+pub use client::{SetsClient, SetsFamily, SetsWork};
 
 /// Sizes of three sets.
 pub fn example_sizes()

@@ -8,8 +8,8 @@ mod firsts;
 mod sizes;
 mod truths;
 
-pub use sizes::{SizeClient, SizeWork};
-pub use truths::{TestClient, TestWork};
+pub use sizes::{SizeClient, SizeFamily, SizeWork};
+pub use truths::{TestClient, TestFamily, TestWork};
 
 /// The places of the far rays, read on two rays.
 pub fn example_places()

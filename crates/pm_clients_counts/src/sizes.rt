@@ -5,7 +5,7 @@ ghost use Rattle.pm_client.specs.Sound.{IsSound};
 ghost use Rattle.pm_client.specs.declared.ClientFail.TheVariants.{Memory};
 ghost use Rattle.pm_standard.specs.Table.{standard_kind};
 ghost use Rattle.pm_standard.specs.declared.standard.StandardClient.TheVariants as client;
-ghost use Rattle.std.specs.Prelude.{IfErr, OnOk, [], ◌≡◌, map, ◌∷◌};
+ghost use Rattle.std.specs.Prelude.{IfErr, OnOk, [], ◌≡◌};
 
 use crate::firsts::zero_places;
 use pm_client::{ClientFail, matrix_of, put_value, sets_of};
@@ -23,24 +23,6 @@ pub enum SizeWork {
     NFacets,
     NFacetsSets,
     FarFace,
-}
-
-impl SizeWork {
-    ghost use Rattle.pm_clients_counts.specs.Works.{size_client};
-
-    /// All of them, in the order of the standard book.
-    pub fn every() -> [SizeWork; 5]
-        ensures { map size_client result ≡ client.NVertices ∷ client.NVerticesSets ∷ client.NFacets
-            ∷ client.NFacetsSets ∷ client.FarFace ∷ [] }
-    {
-        [
-            Self::NVertices,
-            Self::NVerticesSets,
-            Self::NFacets,
-            Self::NFacetsSets,
-            Self::FarFace,
-        ]
-    }
 }
 
 /// The standard clients that count rays and facets or list rays.

@@ -6,7 +6,7 @@ ghost use Rattle.pm_client.specs.declared.ClientFail.TheVariants.{Memory};
 ghost use Rattle.pm_standard.specs.Table.{standard_kind};
 ghost use Rattle.pm_standard.specs.declared.standard.StandardClient.TheVariants as client;
 ghost use Rattle.pm_relations.specs.FirstEntries.{HasPositiveFirst, HasZeroFirst};
-ghost use Rattle.std.specs.Prelude.{All, IfErr, IsTrue, OnOk, [], ◌≡◌, ◌↔◌, map, ◌∷◌};
+ghost use Rattle.std.specs.Prelude.{All, IfErr, IsTrue, OnOk, [], ◌≡◌, ◌↔◌};
 
 use crate::firsts::{has_positive_firsts, has_zero_firsts};
 use pm_client::{ClientFail, matrix_of, put_value, whole_of};
@@ -25,24 +25,6 @@ pub enum TestWork {
     Pointed,
     FullDim,
     Centered,
-}
-
-impl TestWork {
-    ghost use Rattle.pm_clients_counts.specs.Works.{truth_client};
-
-    /// All of them, in the order of the standard book.
-    pub fn every() -> [TestWork; 5]
-        ensures { map truth_client result ≡ client.Feasible ∷ client.Bounded ∷ client.Pointed
-            ∷ client.FullDim ∷ client.Centered ∷ [] }
-    {
-        [
-            Self::Feasible,
-            Self::Bounded,
-            Self::Pointed,
-            Self::FullDim,
-            Self::Centered,
-        ]
-    }
 }
 
 /// The standard clients that find truth values.

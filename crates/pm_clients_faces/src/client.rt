@@ -5,7 +5,7 @@ ghost use Rattle.pm_client.specs.declared.ClientFail.TheVariants.{Memory};
 ghost use Rattle.pm_clients_faces.specs.Faces.{FailsForMany, HasFewFaces};
 ghost use Rattle.pm_standard.specs.Table.{standard_kind};
 ghost use Rattle.pm_standard.specs.declared.standard.StandardClient.TheVariants as client;
-ghost use Rattle.std.specs.Prelude.{IfErr, OnOk, [], ◌≡◌, map, ◌∷◌};
+ghost use Rattle.std.specs.Prelude.{IfErr, OnOk, [], ◌≡◌};
 
 use crate::numbers::{f_numbers, f2_table, h_numbers};
 use pm_client::{ClientFail, counts_of, lattice_of, put_value, sets_of, whole_of};
@@ -23,18 +23,6 @@ pub enum FacesWork {
     FVector,
     F2Vector,
     HVector,
-}
-
-impl FacesWork {
-    ghost use Rattle.pm_clients_faces.specs.Works.{faces_client};
-
-    /// All of them, in the order of the standard book.
-    pub fn every() -> [FacesWork; 4]
-        ensures { map faces_client result ≡ client.Faces ∷ client.FVector ∷ client.F2Vector ∷ client.HVector
-            ∷ [] }
-    {
-        [Self::Faces, Self::FVector, Self::F2Vector, Self::HVector]
-    }
 }
 
 /// The standard clients that find faces, and count them.

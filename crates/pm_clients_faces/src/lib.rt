@@ -8,7 +8,7 @@ ghost use Rattle.pm_clients_faces.specs.Laws.{F2VectorIsFound, FVectorIsFound, H
 mod client;
 mod numbers;
 
-pub use client::{FaceClient, FacesWork};
+pub use client::{FaceClient, FacesFamily, FacesWork};
 
 /// The intersections of the sets of right VERTICES_IN_FACETS, by rank, are right for HASSE_DIAGRAM.
 pub fn law_hasse_diagram_is_found()

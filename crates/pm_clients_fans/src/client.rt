@@ -7,7 +7,7 @@ ghost use Rattle.pm_clients_fans.specs.Works.{FanFails, FindsDims};
 ghost use Rattle.pm_clients_fans.specs.declared.client.FanWork.TheVariants as work;
 ghost use Rattle.pm_standard.specs.Table.{standard_kind};
 ghost use Rattle.pm_standard.specs.declared.standard.StandardClient.TheVariants as client;
-ghost use Rattle.std.specs.Prelude.{IfErr, OnOk, [], ◌≡◌, map, ◌∷◌, true};
+ghost use Rattle.std.specs.Prelude.{IfErr, OnOk, [], ◌≡◌, true};
 
 use crate::dims::{are_one, are_simplices, dims_of, greatest};
 use pm_client::{ClientFail, counts_of, matrix_of, primitive_rows, put_value, sets_of, whole_of};
@@ -26,31 +26,6 @@ pub enum FanWork {
     FanSimplicial,
     FanSize,
     FanDimsWide,
-}
-
-impl FanWork {
-    ghost use Rattle.pm_clients_fans.specs.Works.{fan_client};
-
-    /// Those of the standard clients, in the order of the standard book.
-    pub fn every() -> [FanWork; 5]
-        ensures { map fan_client result ≡ client.FanDims ∷ client.FanDim ∷ client.FanPure
-            ∷ client.FanSimplicial ∷ client.FanSize ∷ [] }
-    {
-        [
-            Self::FanDims,
-            Self::FanDim,
-            Self::FanPure,
-            Self::FanSimplicial,
-            Self::FanSize,
-        ]
-    }
-
-    /// Those of the clients that answer by wide numbers, in the order of their rules.
-    pub fn wide() -> [FanWork; 1]
-        ensures { map fan_client result ≡ client.FanDimsWide ∷ [] }
-    {
-        [Self::FanDimsWide]
-    }
 }
 
 /// The clients of fans.

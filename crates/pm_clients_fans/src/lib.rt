@@ -7,7 +7,7 @@ ghost use Rattle.pm_clients_fans.specs.Examples.{LostMaximalConesAreRead, Number
 mod client;
 mod dims;
 
-pub use client::{FanClient, FanWork};
+pub use client::{FanClient, FanFamily, FanWork};
 
 /// What some numbers and sets show.
 pub fn example_numbers()

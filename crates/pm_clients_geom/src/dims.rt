@@ -11,7 +11,7 @@ ghost use Rattle.pm_standard.specs.Table.{standard_kind};
 ghost use Rattle.pm_props.specs.Sets.{has};
 ghost use Rattle.pm_props.specs.declared.property.PropId.TheVariants as property;
 ghost use Rattle.pm_standard.specs.declared.standard.StandardClient.TheVariants as client;
-ghost use Rattle.std.specs.Prelude.{Contains, IfErr, IfOk, IsTrue, OnOk, [], false, true, ◌<◌, ◌≡◌, ◌≤◌, map, ◌∷◌};
+ghost use Rattle.std.specs.Prelude.{Contains, IfErr, IfOk, IsTrue, OnOk, [], false, true, ◌<◌, ◌≡◌, ◌≤◌};
 
 use crate::lists::row_list;
 use pm_client::{ClientFail, matrix_of, put_value, whole_of};
@@ -33,31 +33,6 @@ pub enum DimWork {
     CombinatorialDim,
     ConeDimVWide,
     ConeDimPointsWide,
-}
-
-impl DimWork {
-    ghost use Rattle.pm_clients_geom.specs.Works.{dimension_client};
-
-    /// Those of the standard clients, in the order of the standard book.
-    pub fn every() -> [DimWork; 5]
-        ensures { map dimension_client result ≡ client.ConeDimV ∷ client.ConeDimSpan ∷ client.ConeDimPoints
-            ∷ client.LinealityDim ∷ client.CombinatorialDim ∷ [] }
-    {
-        [
-            Self::ConeDimV,
-            Self::ConeDimSpan,
-            Self::ConeDimPoints,
-            Self::LinealityDim,
-            Self::CombinatorialDim,
-        ]
-    }
-
-    /// Those of the clients that answer by wide numbers, in the order of their rules.
-    pub fn wide() -> [DimWork; 2]
-        ensures { map dimension_client result ≡ client.ConeDimVWide ∷ client.ConeDimPointsWide ∷ [] }
-    {
-        [Self::ConeDimVWide, Self::ConeDimPointsWide]
-    }
 }
 
 /// The clients that find a dimension.

@@ -8,8 +8,7 @@ ghost use Rattle.pm_clients_geom.specs.Lists.{ReadsParts};
 ghost use Rattle.pm_props.specs.Sets.{has, set_of};
 ghost use Rattle.pm_vector.specs.Rows.{HasCols};
 ghost use Rattle.pm_props.specs.declared.property.PropId.TheVariants as property;
-ghost use Rattle.pm_standard.specs.declared.standard.StandardClient.TheVariants as client;
-ghost use Rattle.std.specs.Prelude.{IfErr, IfOk, IsTrue, OnOk, [], true, ◌∷◌, ◌≡◌, map};
+ghost use Rattle.std.specs.Prelude.{IfErr, IfOk, IsTrue, OnOk, [], true, ◌∷◌, ◌≡◌};
 
 use crate::rays::{are_rays, matrix_of_rays};
 use crate::rows::may_be_lines;
@@ -33,36 +32,6 @@ pub enum HullWork {
     DdFacetsWide,
     DdFacetsVWide,
     DdVerticesFWide,
-}
-
-impl HullWork {
-    ghost use Rattle.pm_clients_geom.specs.Works.{hull_client};
-
-    /// Those of the standard clients, in the order of the standard book.
-    pub fn every() -> [HullWork; 4]
-        ensures { map hull_client result ≡ client.DdVertices ∷ client.DdFacets ∷ client.DdFacetsV
-            ∷ client.DdVerticesF ∷ [] }
-    {
-        [
-            Self::DdVertices,
-            Self::DdFacets,
-            Self::DdFacetsV,
-            Self::DdVerticesF,
-        ]
-    }
-
-    /// Those of the clients that answer by wide numbers, in the order of their rules.
-    pub fn wide() -> [HullWork; 4]
-        ensures { map hull_client result ≡ client.DdVerticesWide ∷ client.DdFacetsWide ∷ client.DdFacetsVWide
-            ∷ client.DdVerticesFWide ∷ [] }
-    {
-        [
-            Self::DdVerticesWide,
-            Self::DdFacetsWide,
-            Self::DdFacetsVWide,
-            Self::DdVerticesFWide,
-        ]
-    }
 }
 
 /// The clients of double description.

@@ -20,13 +20,13 @@ mod redundancy;
 mod rows;
 mod thinning;
 
-pub use dims::{DimClient, DimWork};
-pub use hulls::{HullClient, HullWork};
-pub use placing::{PlaceClient, PlaceWork};
+pub use dims::{DimClient, DimFamily, DimWork};
+pub use hulls::{HullClient, HullFamily, HullWork};
+pub use placing::{PlaceClient, PlaceFamily, PlaceWork};
 pub use points::has_point;
-pub use redundancy::{RedundancyClient, RedundancyWork};
-pub use rows::{RowsClient, RowsWork};
-pub use thinning::{ThinClient, ThinWork};
+pub use redundancy::{RedundancyClient, RedundancyFamily, RedundancyWork};
+pub use rows::{RowsClient, RowsFamily, RowsWork};
+pub use thinning::{ThinClient, ThinFamily, ThinWork};
 
 /// The definitions of matrices that are put, read on small ones.
 pub fn example_matrices()

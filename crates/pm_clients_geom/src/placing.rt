@@ -7,8 +7,7 @@ ghost use Rattle.pm_clients_geom.specs.PlacedRays.{ArePlaced, PlacesRays, fail_o
 ghost use Rattle.pm_object.specs.Reading.{IsView};
 ghost use Rattle.pm_props.specs.Sets.{set_of};
 ghost use Rattle.pm_props.specs.declared.property.PropId.TheVariants as property;
-ghost use Rattle.pm_standard.specs.declared.standard.StandardClient.TheVariants as client;
-ghost use Rattle.std.specs.Prelude.{IfErr, IfOk, OnOk, [], map, true, ◌∷◌, ◌≡◌};
+ghost use Rattle.std.specs.Prelude.{IfErr, IfOk, OnOk, [], true, ◌∷◌, ◌≡◌};
 
 use crate::hulls::{Parts, put_hull, read_parts};
 use pm_beneath::{Facets, PlaceFail, place};
@@ -28,25 +27,6 @@ pub enum PlaceWork {
     BbFacetsWide,
     BbFacetsVWide,
     PlacingWide,
-}
-
-impl PlaceWork {
-    ghost use Rattle.pm_clients_geom.specs.Works.{place_client};
-
-    /// Those of the standard clients, in the order of the standard book.
-    pub fn every() -> [PlaceWork; 3]
-        ensures { map place_client result ≡ client.BbFacets ∷ client.BbFacetsV ∷ client.Placing ∷ [] }
-    {
-        [Self::BbFacets, Self::BbFacetsV, Self::Placing]
-    }
-
-    /// Those of the clients that answer by wide numbers, in the order of their rules.
-    pub fn wide() -> [PlaceWork; 3]
-        ensures { map place_client result ≡ client.BbFacetsWide ∷ client.BbFacetsVWide ∷ client.PlacingWide
-            ∷ [] }
-    {
-        [Self::BbFacetsWide, Self::BbFacetsVWide, Self::PlacingWide]
-    }
 }
 
 /// The clients that place rays.

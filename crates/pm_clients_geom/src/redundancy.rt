@@ -2,8 +2,7 @@
 
 ghost use Rattle.pm_client.specs.Sound.{FailsRightly, IsSound};
 ghost use Rattle.pm_clients_geom.specs.Redundancy.{AsksForPoint, FailsForProgram, ThinsByPrograms, ThinsHalvesByPrograms};
-ghost use Rattle.pm_standard.specs.declared.standard.StandardClient.TheVariants as client;
-ghost use Rattle.std.specs.Prelude.{IfErr, OnOk, [], ◌≡◌, map, ◌∷◌};
+ghost use Rattle.std.specs.Prelude.{IfErr, OnOk, [], ◌≡◌};
 
 use crate::hulls::{put_generators, read_parts};
 use crate::points::has_point;
@@ -25,34 +24,6 @@ pub enum RedundancyWork {
     ThinPointsLpWide,
     ThinInequalitiesLpWide,
     FeasibleLpWide,
-}
-
-impl RedundancyWork {
-    ghost use Rattle.pm_clients_geom.specs.Works.{redundancy_client};
-
-    /// Those of the standard clients, in the order of the standard book.
-    pub fn every() -> [RedundancyWork; 3]
-        ensures { map redundancy_client result ≡ client.ThinPointsLp ∷ client.ThinInequalitiesLp
-            ∷ client.FeasibleLp ∷ [] }
-    {
-        [
-            Self::ThinPointsLp,
-            Self::ThinInequalitiesLp,
-            Self::FeasibleLp,
-        ]
-    }
-
-    /// Those of the clients that answer by wide numbers, in the order of their rules.
-    pub fn wide() -> [RedundancyWork; 3]
-        ensures { map redundancy_client result ≡ client.ThinPointsLpWide ∷ client.ThinInequalitiesLpWide
-            ∷ client.FeasibleLpWide ∷ [] }
-    {
-        [
-            Self::ThinPointsLpWide,
-            Self::ThinInequalitiesLpWide,
-            Self::FeasibleLpWide,
-        ]
-    }
 }
 
 /// The clients of linear programs over half-spaces or generators.

@@ -16,7 +16,7 @@ ghost use Rattle.pm_props.specs.declared.property.PropId.TheVariants as property
 ghost use Rattle.pm_standard.specs.declared.standard.StandardClient.TheVariants as client;
 ghost use Rattle.pm_props.specs.Properties.{has_program, of_fans, row};
 ghost use Rattle.pm_props.specs.Sets.{has};
-ghost use Rattle.std.specs.Prelude.{All, false, IfErr, IfOk, IsTrue, OnOk, [], length, true, map, ◌<◌, ◌≡◌, ◌↔◌, ◌∷◌};
+ghost use Rattle.std.specs.Prelude.{All, false, IfErr, IfOk, IsTrue, OnOk, [], length, true, ◌<◌, ◌≡◌, ◌↔◌};
 
 use crate::lists::row_list;
 use pm_client::{ClientFail, matrix_of, put_value};
@@ -38,31 +38,6 @@ pub enum RowsWork {
     HullFromVertices,
     LinealityFromFacetsWide,
     HullFromVerticesWide,
-}
-
-impl RowsWork {
-    ghost use Rattle.pm_clients_geom.specs.Works.{rows_client};
-
-    /// Those of the standard clients, in the order of the standard book.
-    pub fn every() -> [RowsWork; 4]
-        ensures { map rows_client result ≡ client.PointsFromVertices ∷ client.InequalitiesFromFacets
-            ∷ client.LinealityFromFacets ∷ client.HullFromVertices ∷ [] }
-    {
-        [
-            Self::PointsFromVertices,
-            Self::InequalitiesFromFacets,
-            Self::LinealityFromFacets,
-            Self::HullFromVertices,
-        ]
-    }
-
-    /// Those of the clients that answer by wide numbers, in the order of their rules.
-    pub fn wide() -> [RowsWork; 2]
-        ensures { map rows_client result ≡ client.LinealityFromFacetsWide ∷ client.HullFromVerticesWide
-            ∷ [] }
-    {
-        [Self::LinealityFromFacetsWide, Self::HullFromVerticesWide]
-    }
 }
 
 /// The clients that find rows.

@@ -7,8 +7,7 @@ ghost use Rattle.pm_clients_geom.specs.Hulls.{AreFewRows};
 ghost use Rattle.pm_clients_geom.specs.Thinned.{ArePossibleFacets, ArePossibleRays, ArePutFacets, FindsFacetsOfSets, FindsRaysOfSets, ReadsLostRows, ReadsLostSets, ThinsInequalities, ThinsPoints};
 ghost use Rattle.pm_props.specs.Sets.{set_of};
 ghost use Rattle.pm_props.specs.declared.property.PropId.TheVariants as property;
-ghost use Rattle.pm_standard.specs.declared.standard.StandardClient.TheVariants as client;
-ghost use Rattle.std.specs.Prelude.{All, IfErr, OnOk, [], length, true, ◌<◌, ◌∷◌, ◌≡◌, map};
+ghost use Rattle.std.specs.Prelude.{All, IfErr, OnOk, [], length, true, ◌<◌, ◌∷◌, ◌≡◌};
 
 use crate::hulls::{put_generators, put_hull, read_parts};
 use crate::rays::{are_not_zero, are_rays, matrix_of_rays};
@@ -35,36 +34,6 @@ pub enum ThinWork {
     ThinInequalitiesVWide,
     VerticesFromSetsWide,
     FacetsFromSetsWide,
-}
-
-impl ThinWork {
-    ghost use Rattle.pm_clients_geom.specs.Works.{thinning_client};
-
-    /// Those of the standard clients, in the order of the standard book.
-    pub fn every() -> [ThinWork; 4]
-        ensures { map thinning_client result ≡ client.ThinPointsF ∷ client.ThinInequalitiesV
-            ∷ client.VerticesFromSets ∷ client.FacetsFromSets ∷ [] }
-    {
-        [
-            Self::ThinPointsF,
-            Self::ThinInequalitiesV,
-            Self::VerticesFromSets,
-            Self::FacetsFromSets,
-        ]
-    }
-
-    /// Those of the clients that answer by wide numbers, in the order of their rules.
-    pub fn wide() -> [ThinWork; 4]
-        ensures { map thinning_client result ≡ client.ThinPointsFWide ∷ client.ThinInequalitiesVWide
-            ∷ client.VerticesFromSetsWide ∷ client.FacetsFromSetsWide ∷ [] }
-    {
-        [
-            Self::ThinPointsFWide,
-            Self::ThinInequalitiesVWide,
-            Self::VerticesFromSetsWide,
-            Self::FacetsFromSetsWide,
-        ]
-    }
 }
 
 /// The clients that thin, and those that find rows from sets.

@@ -4,7 +4,7 @@ ghost use Rattle.pm_client.specs.Sound.{IsSound};
 ghost use Rattle.pm_client.specs.declared.ClientFail.TheVariants.{Memory};
 ghost use Rattle.pm_standard.specs.Table.{standard_kind};
 ghost use Rattle.pm_standard.specs.declared.standard.StandardClient.TheVariants as client;
-ghost use Rattle.std.specs.Prelude.{IfErr, OnOk, [], ◌≡◌, map, ◌∷◌};
+ghost use Rattle.std.specs.Prelude.{IfErr, OnOk, [], ◌≡◌};
 
 use crate::counts::{degrees, edge_count};
 use pm_client::{ClientFail, edges_of, lattice_of, put_value, sets_of};
@@ -25,28 +25,6 @@ pub enum GraphWork {
     DualDiameter,
     NEdges,
     NRidges,
-}
-
-impl GraphWork {
-    ghost use Rattle.pm_clients_graph.specs.Works.{graph_client};
-
-    /// All of them, in the order of the standard book.
-    pub fn every() -> [GraphWork; 8]
-        ensures { map graph_client result ≡ client.GraphOfSets ∷ client.GraphOfFaces ∷ client.DualGraph
-            ∷ client.VertexDegrees ∷ client.Diameter ∷ client.DualDiameter ∷ client.NEdges ∷ client.NRidges
-            ∷ [] }
-    {
-        [
-            Self::GraphOfSets,
-            Self::GraphOfFaces,
-            Self::DualGraph,
-            Self::VertexDegrees,
-            Self::Diameter,
-            Self::DualDiameter,
-            Self::NEdges,
-            Self::NRidges,
-        ]
-    }
 }
 
 /// The standard clients that find graphs, and what these show.

@@ -8,7 +8,7 @@ ghost use Rattle.pm_clients_graph.specs.Laws.{DiameterIsFound, DualDiameterIsFou
 mod client;
 mod counts;
 
-pub use client::{GraphClient, GraphWork};
+pub use client::{GraphClient, GraphFamily, GraphWork};
 
 /// Degrees and edges of two graphs.
 pub fn example_counts()

@@ -7,7 +7,7 @@ ghost use Rattle.pm_clients_lift.specs.LostExamples.{LostSitesAreRead};
 
 mod lifts;
 
-pub use lifts::{LiftClient, LiftWork};
+pub use lifts::{LiftClient, LiftFamily, LiftWork};
 
 /// The sites of each cell of right DELAUNAY_CELLS lie on a sphere, and all other sites outside of it.
 pub fn law_delaunay_spheres_are_empty()

@@ -8,7 +8,6 @@ ghost use Rattle.pm_matrix.specs.Matrices.{IsFraction};
 ghost use Rattle.pm_object.specs.Reading.{IsView};
 ghost use Rattle.pm_props.specs.Sets.{has, set_of};
 ghost use Rattle.pm_props.specs.declared.property.PropId.TheVariants as property;
-ghost use Rattle.pm_standard.specs.declared.standard.StandardClient.TheVariants as client;
 ghost use Rattle.std.specs.Prelude.{All, IfErr, IfOk, IsTrue, OnOk, [], length, map, true, ◌∷◌, ◌≡◌, ◌≤◌};
 ghost use Rattle.pm_limits.specs.Limits.{most_rows};
 
@@ -29,24 +28,6 @@ pub enum LiftWork {
     Delaunay,
     RegularCellsWide,
     DelaunayWide,
-}
-
-impl LiftWork {
-    ghost use Rattle.pm_clients_lift.specs.Works.{lift_client};
-
-    /// Those of the standard clients, in the order of the standard book.
-    pub fn every() -> [LiftWork; 2]
-        ensures { map lift_client result ≡ client.RegularCells ∷ client.Delaunay ∷ [] }
-    {
-        [Self::RegularCells, Self::Delaunay]
-    }
-
-    /// Those of the clients that answer by wide numbers, in the order of their rules.
-    pub fn wide() -> [LiftWork; 2]
-        ensures { map lift_client result ≡ client.RegularCellsWide ∷ client.DelaunayWide ∷ [] }
-    {
-        [Self::RegularCellsWide, Self::DelaunayWide]
-    }
 }
 
 /// The clients that lift sites.

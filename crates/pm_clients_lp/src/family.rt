@@ -1,7 +1,6 @@
 // The family of the clients of linear programs.
 
-ghost use Rattle.pm_standard.specs.declared.standard.StandardClient.TheVariants as client;
-ghost use Rattle.std.specs.Prelude.{[], map, ◌∷◌, ◌≡◌};
+ghost use Rattle.std.specs.Prelude.{◌≡◌};
 
 use crate::faces::face_at_value;
 use crate::halves::{value_from_rows, value_with_dual};
@@ -32,46 +31,6 @@ pub enum LpWork {
     AtRaysWide(Sense),
     /// The rays at the optimum, by wide numbers.
     AtFaceWide(Sense),
-}
-
-impl LpWork {
-    ghost use Rattle.pm_clients_lp.specs.Clients.{linear_client};
-
-    /// Those of the standard clients, in the order of the standard book.
-    pub fn every() -> [LpWork; 8]
-        ensures { map linear_client result ≡ client.LpMax ∷ client.LpMin ∷ client.LpMaxRows
-            ∷ client.LpMinRows
-            ∷ client.LpMaxV ∷ client.LpMinV ∷ client.LpMaxFace ∷ client.LpMinFace ∷ [] }
-    {
-        [
-            Self::OverFacets(Sense::Maximal),
-            Self::OverFacets(Sense::Minimal),
-            Self::OverRows(Sense::Maximal),
-            Self::OverRows(Sense::Minimal),
-            Self::AtRays(Sense::Maximal),
-            Self::AtRays(Sense::Minimal),
-            Self::AtFace(Sense::Maximal),
-            Self::AtFace(Sense::Minimal),
-        ]
-    }
-
-    /// Those of the clients that answer by wide numbers, in the order of their rules.
-    pub fn wide() -> [LpWork; 8]
-        ensures { map linear_client result ≡ client.LpMaxWide ∷ client.LpMinWide ∷ client.LpMaxRowsWide
-            ∷ client.LpMinRowsWide
-            ∷ client.LpMaxVWide ∷ client.LpMinVWide ∷ client.LpMaxFaceWide ∷ client.LpMinFaceWide ∷ [] }
-    {
-        [
-            Self::OverFacetsWide(Sense::Maximal),
-            Self::OverFacetsWide(Sense::Minimal),
-            Self::OverRowsWide(Sense::Maximal),
-            Self::OverRowsWide(Sense::Minimal),
-            Self::AtRaysWide(Sense::Maximal),
-            Self::AtRaysWide(Sense::Minimal),
-            Self::AtFaceWide(Sense::Maximal),
-            Self::AtFaceWide(Sense::Minimal),
-        ]
-    }
 }
 
 /// The clients of linear programs over polytopes.

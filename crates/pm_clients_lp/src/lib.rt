@@ -15,7 +15,7 @@ mod rays;
 mod reading;
 
 pub use duals::dual_rows;
-pub use family::{LpClient, LpWork};
+pub use family::{LpClient, LpFamily, LpWork};
 pub use programs::{OptimumWithDual, optimum_over, optimum_with_dual};
 
 /// How the clients of the family fail.

@@ -7,3 +7,5 @@ pub mod Outcomes
 pub mod Books
 pub mod Worked
 pub mod DemoTexts
+pub mod Widening
+pub mod Boxing

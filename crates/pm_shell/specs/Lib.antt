@@ -3,3 +3,4 @@ pub mod DemoExamples
 pub mod Chosen
 pub mod Ends
 pub mod Examples
+pub mod Shipped
