@@ -26,11 +26,11 @@ def cones_at(thing):
 
 
 def is_fan(cones):
-    """Whether the two replies that are told one after the other, rays and cones, are these cones in any order."""
+    """Whether the two replies that are told one after the other, rays and cones, are these cones in any order; a ray is told by any multiple."""
     told = []
 
     def rays(line):
-        told[:] = [tuple(map(int, row)) for row in json.loads(line.split(' ', 2)[2]) if isinstance(row, list)]
+        told[:] = [primitive(tuple(map(int, row))) for row in json.loads(line.split(' ', 2)[2]) if isinstance(row, list)]
         return sorted(told) == sorted({row for cone in cones for row in cone})
 
     def sets(line):
