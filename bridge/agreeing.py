@@ -45,13 +45,11 @@ class Found:
 
 
 def whole_descriptions(thing):
-    """The descriptions that are held with both halves; of POINTS and INEQUALITIES the second one may be left out.
+    """The descriptions that are held; a second half that is left out has no rows.
 
     A fan has one description alone.
     """
-    if thing.type_name == "Fan":
-        return []
-    return [it for it in PAIRS if thing.has(it) and (AS[it] == it or thing.has(PAIRS[it]))]
+    return [] if thing.type_name == "Fan" else [it for it in PAIRS if thing.has(it)]
 
 
 def row_text(row):

@@ -13,6 +13,7 @@ import agreeing
 import command
 import looks
 import plans
+import value_faults
 import why
 from calls import wrapper
 from polymake_files import data_text, read_polymake
@@ -21,6 +22,7 @@ from refusals import WORD, Notes, Refusal, shown, told_path
 from replies import names_read_over
 from session import Ended, Session
 from sizes import fits, largest, most_of
+from values import compact, written
 
 PROPERTY = re.compile(r"(?:([A-Za-z][A-Za-z0-9_]{0,31})\.)?([A-Z][A-Z0-9_]*)", re.ASCII)
 OBJECT = "p"
@@ -285,6 +287,16 @@ def tell_why(session, asked, options, refused):
             say(line)
 
 
+def value_fault(thing, reply):
+    """What is wrong with the value that the refusal of a file names, or None."""
+    words = reply.split(" ")
+    item = by_name(thing.type_name).get(words[4]) if len(words) == 6 and words[3] == "BadProperty" else None
+    if item is None or item.polytope not in thing.values:
+        return None
+    fault = value_faults.told(words[5], item, thing.type_name, compact(written(item.kind, thing.values[item.polytope])), None)
+    return f"{fault}; round the numbers, or scale them" if "127 bits" in fault else fault
+
+
 def run(asked, options, folder):
     """Exit status 0, or 1 where a line was refused."""
     wanted = [it for word in options.properties for it in asked.references(word)]
@@ -294,7 +306,7 @@ def run(asked, options, folder):
         lines = session.ask(f"load {OBJECT} p.json")
         print(load_reply(lines), flush=True)
         if lines[0].startswith("no "):
-            told = "; ".join(beyond_lines(asked.thing)) or "docs/from-polymake.md has what a file may hold"
+            told = "; ".join(beyond_lines(asked.thing)) or value_fault(asked.thing, lines[0]) or "docs/from-polymake.md has what a file may hold"
             say(f"{told_path(asked.path)}: the program refuses it, {shown(lines[0], 60)}: {told}")
             return 1
         if options.plan is not None:

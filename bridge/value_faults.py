@@ -84,11 +84,11 @@ def entry_fault(entry):
         return f"{shown(entry, 20)} has more than 127 bits"
     if found[2] is not None and int(found[2]) == 0:
         return f"{shown(entry)} divides by zero"
-    if isinstance(entry, int) and not -(2**63) <= entry < 2**64:
-        return f'{entry} without quotes is beyond 64 bits: write "{entry}"'
     value = Fraction(int(found[1]), int(found[2] or 1))
     if max(abs(value.numerator), value.denominator) > MOST:
         return f"{shown(entry, 20)} has more than 127 bits"
+    if isinstance(entry, int) and not -(2**63) <= entry < 2**64:
+        return f'{entry} without quotes is beyond 64 bits: write "{entry}"'
     return None
 
 
