@@ -5,17 +5,8 @@
 ghost use Rattle.std.specs.Prelude.{IfErr, IfOk, drop, ◌≡◌, ◌⊎◌};
 ghost use Rattle.std.specs.Vec.Iter.{into_iter_items};
 
-mod book;
-mod demo;
-mod examples;
-mod lines;
-mod run;
-mod shipped;
-mod status;
-
+use pm_run::{Status, polymake_with_shipped};
 use pm_store::{DirStore, StdSink, StdSource};
-use shipped::polymake_with_shipped;
-use status::Status;
 use std::alloc::{AllocError, Global};
 use std::env;
 use std::env::{Args, FillError};

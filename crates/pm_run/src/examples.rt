@@ -1,0 +1,16 @@
+// The definitions of a run, worked by hand.
+
+ghost use Rattle.pm_run.specs.DemoExamples.{DemoIsRead};
+ghost use Rattle.pm_run.specs.Examples.{BooksAreChosen, LinesAreRead, LinesAreRefused};
+
+/// Which lines a run read, how a line is refused, and which book a run goes by: what holds, and what does not.
+pub(crate) fn example_runs()
+    ensures lines { LinesAreRead }
+    ensures refusals { LinesAreRefused }
+    ensures books { BooksAreChosen }
+{}
+
+/// The script of the demo: its lines, and that each of them is a command.
+pub(crate) fn example_demo()
+    ensures { DemoIsRead }
+{}
