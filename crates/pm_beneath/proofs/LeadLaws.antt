@@ -11,9 +11,9 @@ use Rattle.pm_geom.specs.Triangulations.{rows_at}
 use Rattle.pm_dd.proofs.LeadingLaws.{arrangement}
 use Rattle.pm_dd.specs.Arrangement.{IsArrangement, Leads, alternating}
 use Rattle.pm_dd.specs.Fronts.{both_signs}
-use Rattle.pm_elim.proofs.DotLaws.{dot-unit}
-use Rattle.pm_elim.specs.Enlarging.{MarkEnlarging}
-use Rattle.pm_elim.specs.Evidence.{IsBasisOf, unit}
+use Rattle.pm_vector.proofs.DotLaws.{dot-unit}
+use Rattle.pm_vector.specs.Enlarging.{MarkEnlarging}
+use Rattle.pm_vector.specs.Evidence.{IsBasisOf, unit}
 use Rattle.pm_geom.proofs.ValidRows.{null_in}
 use Rattle.pm_geom.specs.Faces.{ray}
 use Rattle.pm_geom.specs.StatedOrder.{rows_marked}

@@ -8,8 +8,8 @@ use Rattle.pm_beneath.specs.Runs.{IsRunTo}
 use Rattle.pm_geom.specs.Triangulations.{rows_at}
 use Rattle.pm_dd.specs.Arrangement.{Leads}
 use Rattle.pm_dd.specs.Fronts.{both_signs}
-use Rattle.pm_elim.specs.Enlarging.{MarkEnlarging}
-use Rattle.pm_elim.specs.Evidence.{IsBasisOf}
+use Rattle.pm_vector.specs.Enlarging.{MarkEnlarging}
+use Rattle.pm_vector.specs.Evidence.{IsBasisOf}
 use Rattle.std.specs.Prelude.{ℕ, suc, ◌+◌, ◌*◌, ◌<◌, ◌≡◌, Bool, true, List, [], ◌∷◌, ◌++◌, drop, length, map}
 use Rattle.std.proofs.Common.{arith, ap, refl, subst, ◌∙◌}
 use Rattle.std.proofs.lemmas.List.{length-drop}

@@ -11,7 +11,7 @@ use Rattle.pm_dd.specs.Lost.{IfWide}
 use Rattle.pm_dd.specs.Refusals.{fail_of_elimination}
 use Rattle.pm_dd.specs.declared.fails.DdFail.{DdFail}
 use Rattle.pm_dd.specs.declared.fails.DdFail.TheVariants as dd
-use Rattle.pm_elim.specs.Evidence.{IfWide as IfWideElimination}
+use Rattle.pm_elim.specs.Refusals.{IfWide as IfWideElimination}
 use Rattle.pm_elim.specs.declared.evidence.ElimFail.{ElimFail}
 use Rattle.std.specs.Prelude.{ℕ, List}
 

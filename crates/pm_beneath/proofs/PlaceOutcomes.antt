@@ -28,8 +28,9 @@ use Rattle.pm_dd.specs.Fronts.{both_signs}
 use Rattle.pm_dd.specs.Refusals.{IsShown, fail_of_elimination}
 use Rattle.pm_dd.specs.declared.fails.DdFail.{DdFail}
 use Rattle.pm_dd.specs.declared.fails.DdFail.TheVariants as dd
-use Rattle.pm_elim.specs.Enlarging.{MarkEnlarging}
-use Rattle.pm_elim.specs.Evidence.{IfWide, IsBasisOf, IsEvidence}
+use Rattle.pm_vector.specs.Enlarging.{MarkEnlarging}
+use Rattle.pm_elim.specs.Refusals.{IfWide}
+use Rattle.pm_vector.specs.Evidence.{IsBasisOf, IsEvidence}
 use Rattle.pm_elim.specs.declared.evidence.ElimFail.{ElimFail}
 use Rattle.pm_elim.specs.declared.evidence.ElimFail.TheVariants as elimination
 use Rattle.pm_geom.specs.Cones.{CutOut}

@@ -1,7 +1,7 @@
 -- The cells of all fronts, as double description takes the rows, are those of the placing.
 use Rattle.pm_vector.proofs.Filters.{among_map, map_among}
 use Rattle.pm_vector.proofs.Lists.{All_among, Among, Contains_among, all_append, all_from, among_All, among_Contains, among_append, among_append_left, among_append_right, here, there}
-use Rattle.pm_vector.proofs.RowLaws.{length-opposite}
+use Rattle.pm_vector.proofs.RowLaws.{dot_comm, length-opposite}
 use Rattle.pm_vector.specs.Rows.{HasCols, Row}
 use Rattle.pm_vector.specs.Bases.{row_at}
 use Rattle.pm_beneath.proofs.FrontLaws.{among_below, below_among, below_ascending}
@@ -16,12 +16,11 @@ use Rattle.pm_geom.specs.Triangulations.{rows_at}
 use Rattle.pm_dd.proofs.Fronts.{signs_cut_out}
 use Rattle.pm_dd.specs.Arrangement.{alternating}
 use Rattle.pm_dd.specs.Fronts.{HalfSpaces, both_signs}
-use Rattle.pm_elim.specs.Enlarging.{MarkEnlarging}
-use Rattle.pm_elim.specs.Evidence.{IsBasisOf}
+use Rattle.pm_vector.specs.Enlarging.{MarkEnlarging}
+use Rattle.pm_vector.specs.Evidence.{IsBasisOf}
 use Rattle.pm_geom.proofs.Facets.{facet_rows_cut_out, order_as, valid_by_products}
 use Rattle.pm_geom.proofs.Polar.{cols_at, cut_at, cut_from}
 use Rattle.pm_vector.proofs.ConeLaws.{in_generator}
-use Rattle.pm_vector.proofs.RowLaws.{dot_comm}
 use Rattle.pm_geom.specs.Cones.{IsOrder, IsValid}
 use Rattle.pm_geom.specs.Faces.{ray}
 use Rattle.pm_geom.specs.Graphs.{IsAscending}

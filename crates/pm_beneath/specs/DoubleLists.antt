@@ -4,7 +4,7 @@ use Rattle.pm_vector.specs.Rows.{HasCols, Row}
 use Rattle.pm_laws_placing.specs.Placing.{IsPlacing}
 use Rattle.pm_geom.specs.Triangulations.{IsTriangulation}
 use Rattle.pm_dd.specs.Fronts.{both_signs}
-use Rattle.pm_elim.specs.Evidence.{IsBasisOf}
+use Rattle.pm_vector.specs.Evidence.{IsBasisOf}
 
 -- the last cells of l1, -l1, l2, -l2, .. and G, where l1, l2, .. is the echelon basis of L, are a triangulation of
 -- cone(G) + span(L)

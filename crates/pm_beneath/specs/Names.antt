@@ -4,8 +4,8 @@ use Rattle.std.specs.List.{All, filter, list_any, slice_index_or}
 use Rattle.pm_vector.specs.Rows.{HasCols, Row}
 use Rattle.pm_dd.specs.Arrangement.{alternating}
 use Rattle.pm_dd.specs.Fronts.{both_signs}
-use Rattle.pm_elim.specs.Enlarging.{MarkEnlarging}
-use Rattle.pm_elim.specs.Evidence.{IsBasisOf}
+use Rattle.pm_vector.specs.Enlarging.{MarkEnlarging}
+use Rattle.pm_vector.specs.Evidence.{IsBasisOf}
 use Rattle.pm_laws_placing.specs.Placing.{IsNextCells, IsPlacing, places_marked, stated_places}
 use Rattle.pm_beneath.specs.Runs.{IsRun, below}
 use Rattle.pm_geom.specs.Triangulations.{rows_at}

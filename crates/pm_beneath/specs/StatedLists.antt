@@ -3,8 +3,8 @@ use Rattle.std.specs.Prelude.{ℕ, ◌*◌, ◌≡◌, Bool, true, List, ◌++�
 use Rattle.pm_vector.specs.Rows.{Row}
 use Rattle.pm_dd.specs.Arrangement.{Leads}
 use Rattle.pm_dd.specs.Fronts.{both_signs}
-use Rattle.pm_elim.specs.Enlarging.{MarkEnlarging}
-use Rattle.pm_elim.specs.Evidence.{IsBasisOf}
+use Rattle.pm_vector.specs.Enlarging.{MarkEnlarging}
+use Rattle.pm_vector.specs.Evidence.{IsBasisOf}
 use Rattle.pm_laws_placing.specs.Placing.{places_marked, stated_places}
 use Rattle.pm_geom.specs.Triangulations.{rows_at}
 

@@ -3,8 +3,8 @@ use Rattle.pm_vector.specs.Numbers.{InRange, Ratio}
 use Rattle.pm_vector.specs.Rows.{ratio_at}
 use Rattle.pm_build.proofs.PaddedRows.{zeros_at}
 use Rattle.pm_build.specs.Objects.{padded, spread, zeros}
-use Rattle.pm_matrix.specs.FractionRows.{IsLeastDenominator, numerator_over}
-use Rattle.pm_matrix.specs.Matrices.{IsFraction}
+use Rattle.pm_fraction.specs.FractionRows.{IsLeastDenominator, numerator_over}
+use Rattle.pm_fraction.specs.Matrices.{IsFraction}
 use Rattle.pm_types.proofs.WholeRows.{ratios_fractions}
 use Rattle.pm_types.specs.Forms.{HasPrimitiveRow}
 use Rattle.pm_types.specs.Views.{over_one}

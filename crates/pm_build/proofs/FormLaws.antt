@@ -10,7 +10,7 @@ use Rattle.pm_build.specs.Objects.{polytope_with}
 use Rattle.pm_types.specs.Parts.{value_over}
 use Rattle.pm_build.specs.Rows.{curve, curve_points, headed, headed_rows, opposite_units, simplex_corners, unit, units}
 use Rattle.pm_object.specs.declared.held.Condition.TheVariants as condition
-use Rattle.pm_matrix.specs.Matrices.{IsFraction}
+use Rattle.pm_fraction.specs.Matrices.{IsFraction}
 use Rattle.pm_object_type.specs.declared.object_type.ObjectType.TheVariants.{Polytope}
 use Rattle.pm_props.specs.declared.property.PropId.TheVariants.{Equations, Inequalities, InputLineality, Points}
 use Rattle.pm_props.specs.declared.property.PropId.{PropId}

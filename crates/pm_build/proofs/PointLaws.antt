@@ -6,7 +6,7 @@ use Rattle.pm_vector.proofs.Signs.{mul_pos, pos_cancel}
 use Rattle.pm_vector.specs.Numbers.{Ratio}
 use Rattle.pm_vector.specs.Rows.{HasCols, Row, Stands, entry}
 use Rattle.pm_build.specs.Points.{is_point, is_positive, points}
-use Rattle.pm_matrix.specs.FractionRows.{ArePrimitiveRowsOf}
+use Rattle.pm_fraction.specs.FractionRows.{ArePrimitiveRowsOf}
 use Rattle.pm_object.proofs.KnownValues.{formed_is, rows_cols}
 use Rattle.pm_object.specs.Known.{IsOfRows}
 use Rattle.pm_object_type.specs.declared.object_type.ObjectType.{ObjectType}

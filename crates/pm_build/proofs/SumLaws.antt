@@ -7,7 +7,7 @@ use Rattle.pm_build.specs.SumSteps.{ColumnStays, IsSumRow, NumbersStay, SumStays
 use Rattle.pm_build.specs.Sums.{AreSums, AreSumsBelow, IsFirstWide, IsWideAmong, IsWideSum}
 use Rattle.pm_build.specs.declared.fails.SumFail.{SumFail}
 use Rattle.pm_build.specs.declared.fails.SumFail.TheVariants.{Memory, NotFit, Wide}
-use Rattle.pm_matrix.specs.Matrices.{FractionMatrix}
+use Rattle.pm_fraction.specs.Matrices.{FractionMatrix}
 use Rattle.std.proofs.Common.{add-one, ap, arith, below_more, refl, subst, suc, sym, zero, ◌∙◌}
 use Rattle.std.proofs.lemmas.List.{append-nil, append_assoc, get_or_append_left, get_or_push, length_push}
 use Rattle.std.proofs.lemmas.List.Elements.{All-append, All-cons, All-nil}

@@ -1,9 +1,9 @@
 -- When an object is built, and why not: the conditions, in the order in which they are tried.
 use Rattle.std.specs.Prelude.{ℕ, suc, ◌^◌, ◌*◌, ◌+◌, ◌≡◌, ◌&&◌, Bool, true, false, not, IsTrue, Option, None, Some, List, [], ◌∷◌, if◌then◌else◌, length, nat_eq, nat_le, nat_lt}
-use Rattle.std.specs.List.{All}
+use Rattle.std.specs.List.{All, list_all}
 use Rattle.std.specs.Option.{is_some, unwrap_or}
 use Rattle.pm_vector.specs.Numbers.{Ratio}
-use Rattle.pm_matrix.specs.Matrices.{FractionMatrix}
+use Rattle.pm_fraction.specs.Matrices.{FractionMatrix}
 use Rattle.pm_object.specs.declared.held.Condition.{Condition}
 use Rattle.pm_object.specs.declared.held.Condition.TheVariants as condition
 use Rattle.pm_object.specs.Known.{cols_at, is_true, rows_at}
@@ -13,7 +13,6 @@ use Rattle.pm_object_type.specs.declared.object_type.ObjectType.TheVariants.{Pol
 use Rattle.pm_props.specs.declared.property.PropId.{PropId}
 use Rattle.pm_props.specs.declared.property.PropId.TheVariants.{AffineHull, Bounded, Centered, Facets, Feasible, FullDim, LinealitySpace, Points, Vertices}
 use Rattle.pm_types.specs.Forms.{is_row, rows_in}
-use Rattle.std.specs.List.{list_all}
 use Rattle.pm_types.specs.Values.{PropertyValue, matrix, truth}
 use Rattle.pm_build.specs.Points.{far, points}
 use Rattle.pm_limits.specs.Limits.{most_columns, most_dimensions, most_rows}

@@ -5,8 +5,8 @@ use Rattle.std.specs.List.{All}
 use Rattle.pm_vector.specs.Numbers.{Ratio}
 use Rattle.pm_vector.specs.Rows.{Row}
 use Rattle.pm_files.specs.Files.{SavedFile}
-use Rattle.pm_matrix.specs.FractionRows.{ArePrimitiveRowsOf}
-use Rattle.pm_matrix.specs.Matrices.{FractionMatrix}
+use Rattle.pm_fraction.specs.FractionRows.{ArePrimitiveRowsOf}
+use Rattle.pm_fraction.specs.Matrices.{FractionMatrix}
 use Rattle.pm_object.specs.Known.{cols_at, rows_at}
 use Rattle.pm_types.specs.Parts.{value_over}
 use Rattle.pm_object.specs.State.{State}

@@ -18,7 +18,7 @@ use crate::fails::SumFail;
 use crate::shapes::{curve_rows, opposite_rows, simplex_rows};
 use crate::summands::{sum_lines, sum_points};
 use pm_files::FileObject;
-use pm_matrix::Matrix;
+use pm_fraction::Matrix;
 use pm_object::{BuildFail, Object, matrix_at};
 use pm_types::{ObjectType, PropId, PropSet, Value};
 use std::alloc::{AllocError, Global};

@@ -10,8 +10,7 @@ ghost use Rattle.std.specs.Prelude.{IfOk, OnOk, [], length, map, suc, ◌+◌, �
 ghost use Rattle.pm_limits.specs.Limits.{most_columns};
 
 use crate::rows::{origin_row, put_row};
-use pm_fraction::Fraction;
-use pm_matrix::Matrix;
+use pm_fraction::{Fraction, Matrix};
 use pm_object::{Object, cols_at, matrix_at};
 use pm_types::PropId;
 use std::alloc::{AllocError, Global};

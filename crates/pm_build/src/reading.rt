@@ -6,7 +6,7 @@ ghost use Rattle.pm_types.specs.Forms.{is_row};
 ghost use Rattle.std.specs.List.{list_all};
 ghost use Rattle.std.specs.Prelude.{◌≡◌};
 
-use pm_matrix::Matrix;
+use pm_fraction::Matrix;
 use pm_types::first_is_below;
 
 /// Whether each row can be a point of a polytope: none has a negative first entry.

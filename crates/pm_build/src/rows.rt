@@ -6,8 +6,7 @@ ghost use Rattle.pm_types.specs.Parts.{cols_over};
 ghost use Rattle.pm_types.specs.Views.{ratios};
 ghost use Rattle.std.specs.Prelude.{IfOk, OnOk, [], length, replicate, ◌+◌, ◌<◌, ◌^◌, ◌∷◌, ◌≡◌, pos};
 
-use pm_fraction::Fraction;
-use pm_matrix::{Matrix, MatrixFail};
+use pm_fraction::{Fraction, Matrix, MatrixFail};
 use std::alloc::{AllocError, Global};
 
 /// Puts a row below the others.

@@ -8,9 +8,8 @@ ghost use Rattle.std.specs.Prelude.{IfOk, length, nat_lt, pos, suc, ◌+◌, ◌
 ghost use Rattle.pm_limits.specs.Limits.{most_dimensions, most_rows};
 
 use crate::rows::{origin_row, put_row, unit_row};
-use pm_fraction::Fraction;
+use pm_fraction::{Fraction, Matrix};
 use pm_limits::{MOST_DIMENSIONS, MOST_ROWS};
-use pm_matrix::Matrix;
 use std::alloc::{AllocError, Global};
 
 /// The first number above the range.

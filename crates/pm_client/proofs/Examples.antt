@@ -8,7 +8,7 @@ use Rattle.pm_vector.specs.Bases.{row_at}
 use Rattle.pm_client.specs.Examples.{DoublesAreRead, no_rows, single}
 use Rattle.pm_client.specs.Sound.{AreParts, ArePartsOf, IsDoubleListOf, are_parts}
 use Rattle.pm_dd.proofs.ZeroRows.{no_basis}
-use Rattle.pm_elim.specs.Enlarging.{MarkEnlarging}
+use Rattle.pm_vector.specs.Enlarging.{MarkEnlarging}
 use Rattle.pm_geom.specs.StatedOrder.{rows_marked}
 use Rattle.pm_props.specs.declared.property.PropId.TheVariants.{AffineHull, Equations, Facets, Inequalities, InputLineality, LinealitySpace}
 use Rattle.pm_props.specs.declared.property.PropId.{PropId}

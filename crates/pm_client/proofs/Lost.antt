@@ -2,7 +2,7 @@
 use Rattle.pm_client.specs.Examples.{FailsAreRead}
 use Rattle.pm_client.specs.Fails.{IfFailed, IfNotMany}
 use Rattle.pm_client.specs.Sound.{fail_of}
-use Rattle.pm_elim.specs.Evidence.{IfWide}
+use Rattle.pm_elim.specs.Refusals.{IfWide}
 use Rattle.pm_elim.proofs.LostExamples.{lost_eliminations_are_read}
 use Rattle.pm_elim.specs.Lost.{IsLost}
 use Rattle.pm_elim.specs.declared.evidence.ElimFail.{ElimFail}

@@ -1,6 +1,6 @@
 -- Two parts of a row list without rows of their own.
 use Rattle.pm_client.specs.Sound.{ArePartsOf, ReadsMatrix, added_rows}
-use Rattle.pm_matrix.specs.FractionRows.{ArePrimitiveRowsOf}
+use Rattle.pm_fraction.specs.FractionRows.{ArePrimitiveRowsOf}
 use Rattle.pm_object.specs.Reading.{ViewSeen}
 use Rattle.pm_props.specs.declared.property.PropId.{PropId}
 use Rattle.pm_vector.specs.Rows.{Row}

@@ -6,12 +6,11 @@ use Rattle.pm_client.specs.Sound.{IsSound}
 use Rattle.pm_geom.specs.Things.{Orders}
 use Rattle.pm_types.specs.Things.{Thing}
 use Rattle.pm_object_type.specs.declared.object_type.ObjectType.{ObjectType}
-use Rattle.pm_matrix.specs.Matrices.{IsFraction}
+use Rattle.pm_fraction.specs.Matrices.{IsFraction}
 use Rattle.pm_object.specs.Reading.{DraftSeen, ViewSeen}
 use Rattle.pm_types.specs.Canonical.{IsCanonical}
 use Rattle.pm_types.specs.Forms.{AreFractions, FormsIn, HasPrimitiveRow, HavePrimitiveRows, agrees_with, are_rows, has_64_bits, is_counts_form, is_formed}
-use Rattle.pm_props.specs.Properties.{is_ambient, is_columned, is_of_counts, is_of_truth_values, is_of_whole_numbers}
-use Rattle.pm_props.specs.Properties.{value_kind}
+use Rattle.pm_props.specs.Properties.{is_ambient, is_columned, is_of_counts, is_of_truth_values, is_of_whole_numbers, value_kind}
 use Rattle.pm_types.specs.Right.{Right, RightAll, objective_of}
 use Rattle.pm_props.specs.Places.{place_of}
 use Rattle.pm_types.specs.Runs.{states_rows}

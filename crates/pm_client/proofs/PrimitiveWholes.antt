@@ -1,6 +1,6 @@
 -- A primitive whole row is that of its fractions over 1.
 use Rattle.pm_lift.proofs.SmallRows.{gcd_one}
-use Rattle.pm_matrix.specs.FractionRows.{ArePrimitiveRowsOf, IsLeastDenominator, IsPrimitiveRowOf, numerators_over}
+use Rattle.pm_fraction.specs.FractionRows.{ArePrimitiveRowsOf, IsLeastDenominator, IsPrimitiveRowOf, numerators_over}
 use Rattle.pm_types.proofs.WholeRows.{length_ratios, ratio_at_ratios}
 use Rattle.pm_types.specs.Views.{ratios}
 use Rattle.pm_vector.proofs.DivisorLaws.{IsPrimitive-from_one}

@@ -9,7 +9,7 @@ use Rattle.pm_client.proofs.ThinningExamples.{no_end, no_others}
 use Rattle.pm_client.specs.Examples.{ProgramsAreRead, no_rows, single, without_rows}
 use Rattle.pm_client.specs.Sound.{AreParts, ArePartsOf, IsLineList, IsWideFeasibility, IsWideOptimum, IsWideProgramOf, IsWideThinningOf, are_parts, finds_optimum}
 use Rattle.pm_dd.proofs.ZeroRows.{no_basis}
-use Rattle.pm_elim.specs.Evidence.{IsBasisOf}
+use Rattle.pm_vector.specs.Evidence.{IsBasisOf}
 use Rattle.pm_geom.specs.declared.evidence.Evidence.{Evidence}
 use Rattle.pm_geom.specs.declared.evidence.Evidence.TheVariants.{E3}
 use Rattle.pm_props.specs.declared.property.PropId.TheVariants.{AffineHull, Equations, Facets, Inequalities, InputLineality, LinealitySpace}

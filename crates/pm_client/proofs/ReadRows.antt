@@ -5,7 +5,7 @@ use Rattle.pm_vector.specs.Numbers.{Ratio}
 use Rattle.pm_vector.specs.Rows.{IsZero, Row, Stands}
 use Rattle.pm_client.proofs.ReadValues.{found}
 use Rattle.pm_client.specs.Sound.{IsRowOf}
-use Rattle.pm_matrix.specs.FractionRows.{ArePrimitiveRowsOf, IsPrimitiveRowOf}
+use Rattle.pm_fraction.specs.FractionRows.{ArePrimitiveRowsOf, IsPrimitiveRowOf}
 use Rattle.pm_object.specs.Reading.{ViewSeen, fact_of}
 use Rattle.pm_props.specs.declared.property.PropId.{PropId}
 use Rattle.pm_types.specs.Values.{matrix}

@@ -7,13 +7,13 @@ use Rattle.pm_vector.specs.Cones.{InSpan}
 use Rattle.pm_vector.specs.Numbers.{Ratio}
 use Rattle.pm_vector.specs.Rows.{Row}
 use Rattle.pm_vector.proofs.Spans.{same_span_refl}
-use Rattle.pm_elim.specs.NullSpaces.{IsNullBasis}
+use Rattle.pm_vector.specs.NullSpaces.{IsNullBasis}
 use Rattle.pm_incidence.specs.FromSets.{holders_from, turned}
 use Rattle.pm_incidence.specs.Thinning.{IsBasisAndRow, flat_group}
 use Rattle.pm_client.specs.Examples.{ThinningIsRead, no_points, no_vertices, single}
 use Rattle.pm_client.specs.Sound.{AreRowsOf, ArePartsOf, AreSetsOf, TellLines, IsDeterminingList, ReadsMatrix, are_parts, are_told}
 use Rattle.pm_incidence.proofs.Described.{units_echelon}
-use Rattle.pm_matrix.specs.FractionRows.{ArePrimitiveRowsOf}
+use Rattle.pm_fraction.specs.FractionRows.{ArePrimitiveRowsOf}
 use Rattle.pm_object.specs.Reading.{ViewSeen, fact_of}
 use Rattle.pm_props.specs.declared.property.PropId.TheVariants.{AffineHull, Equations, Facets, Inequalities, InputLineality, Points, Vertices, VerticesInFacets}
 use Rattle.pm_props.specs.declared.property.PropId.{PropId}

@@ -15,9 +15,9 @@ use Rattle.pm_lattice.specs.declared.lattice.LatticeFail.{LatticeFail}
 use Rattle.pm_lattice.specs.declared.lattice.LatticeFail.TheVariants as closing
 use Rattle.pm_incidence.specs.FromSets.{IsDetermining, IsWideSign, turned}
 use Rattle.pm_incidence.specs.Thinning.{AreManyFacets, IsBasisAndRow, flat_group}
-use Rattle.pm_elim.specs.EliminationSteps.{EliminationStep}
-use Rattle.pm_elim.specs.Enlarging.{MarkEnlarging}
-use Rattle.pm_elim.specs.Evidence.{IsEvidence, unit}
+use Rattle.pm_vector.specs.EliminationSteps.{EliminationStep}
+use Rattle.pm_vector.specs.Enlarging.{MarkEnlarging}
+use Rattle.pm_vector.specs.Evidence.{IsEvidence, unit}
 use Rattle.pm_elim.specs.declared.evidence.ElimFail.{ElimFail}
 use Rattle.pm_elim.specs.declared.evidence.ElimFail.TheVariants as elimination
 use Rattle.pm_geom.specs.Evidence.{IsWideProduct}
@@ -34,7 +34,7 @@ use Rattle.pm_geom.specs.declared.evidence.Evidence.TheVariants.{E1, E2, E3, E4,
 use Rattle.pm_lift.specs.Refusals.{IsLiftFail, IsRaiseFail}
 use Rattle.pm_lift.specs.declared.fails.LiftFail.{LiftFail}
 use Rattle.pm_lift.specs.declared.fails.LiftFail.TheVariants as lift
-use Rattle.pm_matrix.specs.FractionRows.{ArePrimitiveRowsOf}
+use Rattle.pm_fraction.specs.FractionRows.{ArePrimitiveRowsOf}
 use Rattle.pm_object.specs.Reading.{DraftSeen, ViewSeen, answer_of, fact_of}
 use Rattle.pm_types.specs.Runs.{MayAnswer}
 use Rattle.pm_types.specs.Values.{Fact, IndexSets, extended, finite, matrix, sets}
@@ -57,8 +57,8 @@ pub use Rattle.pm_standard.specs.Ways.{Eliminated, row_list, first_part, double_
 pub use Rattle.pm_standard.specs.Named.{eliminated_by, has_way}
 use Rattle.pm_client.specs.declared.ClientFail.{ClientFail}
 use Rattle.pm_client.specs.declared.ClientFail.TheVariants.{Memory, Failed}
-use Rattle.pm_elim.specs.declared.evidence.ElimList.{ElimList}
-use Rattle.pm_elim.specs.declared.evidence.ElimList.TheVariants as elimination_list
+use Rattle.pm_vector.specs.declared.evidence.ElimList.{ElimList}
+use Rattle.pm_vector.specs.declared.evidence.ElimList.TheVariants as elimination_list
 
 -- x is the primitive whole row in the direction of a row of a value of the view, of a property of that kind
 pub record IsRowOf (v : ViewSeen) (of_kind : PropId → Bool) (x : Row) : Type 0 where

@@ -1,11 +1,10 @@
 // Reading the values of sources, and putting those of targets.
 
 ghost use Rattle.pm_client.specs.declared.ClientFail.TheVariants.{Memory};
-ghost use Rattle.pm_matrix.specs.FractionRows.{ArePrimitiveRowsOf};
+ghost use Rattle.pm_fraction.specs.FractionRows.{ArePrimitiveRowsOf};
 ghost use Rattle.pm_object.specs.Reading.{drafted, fact_of};
 ghost use Rattle.pm_types.specs.Forms.{FormsIn, HasPrimitiveRow, is_of_numbers};
-ghost use Rattle.pm_props.specs.Properties.{is_of_counts, is_of_edges, is_of_lattices, is_of_matrices, is_of_sets, is_of_whole_numbers};
-ghost use Rattle.pm_props.specs.Properties.{value_kind};
+ghost use Rattle.pm_props.specs.Properties.{is_of_counts, is_of_edges, is_of_lattices, is_of_matrices, is_of_sets, is_of_whole_numbers, value_kind};
 ghost use Rattle.pm_props.specs.Sets.{has};
 ghost use Rattle.pm_types.specs.Values.{counts, edges, extended, lattice, matrix, sets, whole};
 ghost use Rattle.pm_types.specs.Views.{extended_of, view_of};
@@ -13,7 +12,7 @@ ghost use Rattle.std.specs.Prelude.{All, IfErr, IfOk, IsTrue, None, OnErr, OnOk,
 ghost use Rattle.pm_limits.specs.Limits.{most_rows};
 
 use crate::ClientFail;
-use pm_matrix::{Matrix, RowsFail};
+use pm_fraction::{Matrix, RowsFail};
 use pm_object::{Draft, View};
 use pm_types::{Counts, Lattice, Number, PropId, Sets, Value};
 use pm_vector::Ints;

@@ -10,7 +10,7 @@ use Rattle.pm_props.specs.Properties.{is_generator, is_half_space}
 use Rattle.pm_incidence.specs.declared.fails.IncFail.TheVariants.{Memory, Wide}
 use Rattle.pm_incidence.specs.declared.fails.IncFail.{IncFail}
 use Rattle.pm_geom.specs.declared.evidence.Evidence.TheVariants.{E4}
-use Rattle.pm_matrix.specs.FractionRows.{ArePrimitiveRowsOf}
+use Rattle.pm_fraction.specs.FractionRows.{ArePrimitiveRowsOf}
 use Rattle.pm_incidence.proofs.Places.{incidence_form, incidence_is}
 use Rattle.pm_incidence.proofs.Products.{stays_turned, zero_stays}
 use Rattle.pm_incidence.specs.Incidence.{IsWideFor, incidence}

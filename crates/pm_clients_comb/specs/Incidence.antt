@@ -4,7 +4,7 @@ use Rattle.pm_vector.specs.Numbers.{Ratio}
 use Rattle.pm_vector.specs.Rows.{Row}
 use Rattle.pm_client.specs.Sound.{ReadsMatrix}
 use Rattle.pm_incidence.specs.Incidence.{AllStay}
-use Rattle.pm_matrix.specs.FractionRows.{ArePrimitiveRowsOf}
+use Rattle.pm_fraction.specs.FractionRows.{ArePrimitiveRowsOf}
 use Rattle.pm_object.specs.Reading.{ViewSeen}
 use Rattle.pm_props.specs.declared.property.PropId.TheVariants.{Facets, Vertices, VerticesInFacets}
 use Rattle.pm_props.specs.declared.kind.Kind.{Kind}

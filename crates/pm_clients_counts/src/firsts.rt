@@ -7,7 +7,7 @@ ghost use Rattle.pm_types.specs.Forms.{is_counts_form};
 ghost use Rattle.std.specs.Prelude.{All, IfOk, IsTrue, [], length, slice_index_or, ◌<◌, ◌≡◌, ◌≤◌, ◌↔◌};
 ghost use Rattle.pm_limits.specs.Limits.{most_rows};
 
-use pm_matrix::Matrix;
+use pm_fraction::Matrix;
 use std::alloc::{AllocError, Global};
 
 // The numerator of the first entry of a row, 0 in a row without entries.

@@ -11,7 +11,7 @@ ghost use Rattle.std.specs.Prelude.{All, IfErr, IsTrue, OnOk, [], ◌≡◌, ◌
 use crate::firsts::{has_positive_firsts, has_zero_firsts};
 use pm_client::{ClientFail, matrix_of, put_value, whole_of};
 use pm_family::{Family, FamilyClient};
-use pm_matrix::Matrix;
+use pm_fraction::Matrix;
 use pm_object::{Draft, View};
 use pm_standard::StandardClient;
 use pm_types::{ObjectType, PropId, Value};

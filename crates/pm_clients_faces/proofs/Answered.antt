@@ -21,7 +21,7 @@ use Rattle.pm_graph.specs.HVectors.{AreHNumbers, HasNoHVector}
 use Rattle.pm_lattice.specs.Lattices.{IsFaceLattice, IsShown}
 use Rattle.pm_lattice.specs.declared.lattice.LatticeFail.{LatticeFail}
 use Rattle.pm_lattice.specs.declared.lattice.LatticeFail.TheVariants as closing
-use Rattle.pm_matrix.specs.Matrices.{FractionMatrix}
+use Rattle.pm_fraction.specs.Matrices.{FractionMatrix}
 use Rattle.pm_object.specs.Reading.{DraftSeen, ViewSeen, fact_of}
 use Rattle.pm_standard.specs.Table.{standard_kind}
 use Rattle.pm_props.specs.Places.{place_of}

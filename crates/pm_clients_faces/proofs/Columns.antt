@@ -8,7 +8,7 @@ use Rattle.pm_vector.proofs.Rank.{independent_are_few}
 use Rattle.pm_vector.proofs.Spans.{span_at, span_of, span_to}
 use Rattle.pm_vector.specs.Bases.{IsRank}
 use Rattle.pm_elim.proofs.PrefixLaws.{at_most_columns}
-use Rattle.pm_elim.specs.Evidence.{unit}
+use Rattle.pm_vector.specs.Evidence.{unit}
 use Rattle.pm_geom.specs.Cones.{IsValid}
 use Rattle.pm_incidence.proofs.Described.{units_echelon, zero_facets}
 use Rattle.std.proofs.Common.{arith, ◌∙◌}

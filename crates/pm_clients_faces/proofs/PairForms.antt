@@ -5,7 +5,7 @@ use Rattle.pm_clients_faces.proofs.FaceForms.{few_inner, inner_sizes}
 use Rattle.pm_clients_faces.specs.Numbers.{f2_table, has_few_ranks}
 use Rattle.pm_geom.specs.FaceCounts.{f2_entry, f2_of, inclusion_count, inner, inner_faces, is_within}
 use Rattle.pm_graph.specs.Counts.{f2_matrix, whole}
-use Rattle.pm_matrix.specs.Matrices.{FractionMatrix}
+use Rattle.pm_fraction.specs.Matrices.{FractionMatrix}
 use Rattle.pm_object_type.specs.declared.object_type.ObjectType.TheVariants.{Cone, Fan, Polytope}
 use Rattle.pm_object_type.specs.declared.object_type.ObjectType.{ObjectType}
 use Rattle.pm_props.specs.declared.property.PropId.TheVariants.{F2Vector}

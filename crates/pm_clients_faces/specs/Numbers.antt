@@ -1,7 +1,7 @@
 -- Numbers of faces of a lattice with few ranks.
 use Rattle.pm_geom.specs.FaceCounts.{f_of}
 use Rattle.pm_graph.specs.Counts.{f2_matrix}
-use Rattle.pm_matrix.specs.Matrices.{FractionMatrix}
+use Rattle.pm_fraction.specs.Matrices.{FractionMatrix}
 use Rattle.std.specs.Prelude.{ℕ, Bool, List, [], if◌then◌else◌, length, map, nat_le, ◌+◌}
 use lib.IntN.{ℤ, pos}
 use Rattle.pm_limits.specs.Limits.{most_columns}

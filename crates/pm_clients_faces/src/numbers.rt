@@ -5,9 +5,9 @@ ghost use Rattle.pm_clients_faces.specs.Numbers.{f2_table, f_numbers, has_few_ra
 ghost use Rattle.pm_graph.specs.HVectors.{AreHNumbers, HasNoHVector};
 ghost use Rattle.std.specs.Prelude.{IfOk, [], ◌≡◌};
 
+use pm_fraction::Matrix;
 use pm_graph::{f_vector, f2_vector, h_vector};
 use pm_limits::MOST_COLUMNS;
-use pm_matrix::Matrix;
 use pm_types::{Counts, Lattice};
 use std::alloc::{AllocError, Global};
 

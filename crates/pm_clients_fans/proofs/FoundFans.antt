@@ -1,9 +1,9 @@
 -- What the clients of fans put is right.
 use Rattle.pm_props.specs.declared.property.PropId.{PropId}
-use Rattle.pm_matrix.specs.FractionRows.{ArePrimitiveRowsOf}
+use Rattle.pm_fraction.specs.FractionRows.{ArePrimitiveRowsOf}
 use Rattle.pm_elim.specs.declared.evidence.ElimFail.TheVariants.{Memory, Wide}
 use Rattle.pm_elim.specs.declared.evidence.ElimFail.{ElimFail}
-use Rattle.pm_elim.specs.Evidence.{IfWide}
+use Rattle.pm_elim.specs.Refusals.{IfWide}
 use Rattle.pm_client.proofs.Failing.{fails_by_cone}
 use Rattle.pm_vector.proofs.Lists.{Among, among_All, among_Contains, here, there, all_from}
 use Rattle.pm_vector.specs.Cones.{InSpan}

@@ -2,8 +2,8 @@
 
 ghost use Rattle.pm_vector.specs.Rows.{HasCols};
 ghost use Rattle.pm_clients_fans.specs.Numbers.{IsMost};
-ghost use Rattle.pm_elim.specs.Evidence.{IfWide};
-ghost use Rattle.pm_elim.specs.declared.evidence.ElimList.TheVariants as list;
+ghost use Rattle.pm_elim.specs.Refusals.{IfWide};
+ghost use Rattle.pm_vector.specs.declared.evidence.ElimList.TheVariants as list;
 ghost use Rattle.pm_fan.specs.Dimensions.{AreDimensions, IsConeEvidence, IsLostCone, NoConeEvidence};
 ghost use Rattle.pm_relations.specs.Fans.{AreOne, AreSimplices};
 ghost use Rattle.pm_types.specs.Forms.{is_counts_form, is_sets_form};

@@ -3,7 +3,7 @@ use Rattle.pm_vector.proofs.Lists.{Contains_among, here, there}
 use Rattle.pm_vector.specs.Rows.{Row}
 use Rattle.pm_client.proofs.Failing.{halves_read}
 use Rattle.pm_client.specs.Sound.{AreParts, AreRowsOf, FailsRightly, HoldsOf, IsWideElimination, eliminated_by, fail_of_thin, line_basis_and_row, line_rows, has_way, thinning_programs, facet_count}
-use Rattle.pm_elim.specs.EliminationSteps.{EliminationStep}
+use Rattle.pm_vector.specs.EliminationSteps.{EliminationStep}
 use Rattle.pm_geom.specs.declared.evidence.Evidence.{Evidence}
 use Rattle.pm_geom.specs.declared.evidence.Evidence.TheVariants as evidence
 use Rattle.pm_incidence.specs.Thinning.{half_spaces}

@@ -28,7 +28,7 @@ use Rattle.pm_geom.specs.Generators.{AreGenerators}
 use Rattle.pm_geom.specs.Things.{Orders}
 use Rattle.pm_dd.specs.Hulls.{AreFacets, InConeOf, half_spaces_of}
 use Rattle.pm_dd.specs.Fronts.{HalfSpaces}
-use Rattle.pm_matrix.specs.Matrices.{IsFraction}
+use Rattle.pm_fraction.specs.Matrices.{IsFraction}
 use Rattle.pm_object.specs.Reading.{DraftSeen, IsView, Put, ViewSeen}
 use Rattle.pm_props.specs.Kinds.{IsFresh, names_of}
 use Rattle.pm_props.specs.Places.{place_of}

@@ -8,7 +8,7 @@ use Rattle.pm_types.specs.Parts.{cols_over, as_put}
 use Rattle.pm_clients_geom.specs.Pairs.{LacksPair}
 use Rattle.pm_clients_geom.specs.Stays.{RepeatsRows}
 use Rattle.pm_vector.specs.Numbers.{Ratio}
-use Rattle.pm_matrix.specs.Matrices.{FractionMatrix}
+use Rattle.pm_fraction.specs.Matrices.{FractionMatrix}
 use Rattle.pm_object.specs.Reading.{DraftSeen, Put, ViewSeen, drafted, fact_of}
 use Rattle.pm_relations.proofs.Twins.{facets_cut_out, vertices_generate}
 use Rattle.pm_types.specs.Forms.{FormsIn}

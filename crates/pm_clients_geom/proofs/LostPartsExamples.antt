@@ -11,8 +11,8 @@ use Rattle.pm_dd.proofs.LostExamples.{losses_are_read}
 use Rattle.pm_dd.proofs.ZeroRows.{no_basis}
 use Rattle.pm_dd.specs.Lost.{PartsAreLost}
 use Rattle.pm_elim.specs.LostExamples.{one_entry, two_rows}
-use Rattle.pm_matrix.proofs.Denominators.{least_unique}
-use Rattle.pm_matrix.specs.FractionRows.{ArePrimitiveRowsOf, IsPrimitiveRowOf, numerators_over}
+use Rattle.pm_fraction.proofs.Denominators.{least_unique}
+use Rattle.pm_fraction.specs.FractionRows.{ArePrimitiveRowsOf, IsPrimitiveRowOf, numerators_over}
 use Rattle.pm_props.specs.declared.property.PropId.TheVariants.{AffineHull, Equations, InputLineality, LinealitySpace, Vertices}
 use Rattle.pm_props.specs.declared.property.PropId.{PropId}
 use Rattle.pm_types.specs.Views.{ratios}

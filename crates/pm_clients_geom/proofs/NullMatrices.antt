@@ -10,12 +10,12 @@ use Rattle.pm_clients_geom.proofs.RowLists.{IsColumned}
 use Rattle.pm_clients_geom.specs.Matrices.{MayBeLines}
 use Rattle.pm_types.specs.Parts.{cols_over, as_put}
 use Rattle.pm_elim.proofs.PrefixLaws.{at_most_columns}
-use Rattle.pm_elim.specs.NullSpaces.{IsNullBasis}
+use Rattle.pm_vector.specs.NullSpaces.{IsNullBasis}
 use Rattle.pm_geom.specs.Things.{Orders}
 use Rattle.pm_types.specs.Things.{Thing}
 use Rattle.pm_object_type.specs.declared.object_type.ObjectType.TheVariants.{Cone, Fan, Polytope}
 use Rattle.pm_object_type.specs.declared.object_type.ObjectType.{ObjectType}
-use Rattle.pm_matrix.specs.Matrices.{FractionMatrix}
+use Rattle.pm_fraction.specs.Matrices.{FractionMatrix}
 use Rattle.pm_object.specs.Reading.{DraftSeen, IsView, ViewSeen}
 use Rattle.pm_relations.proofs.Found.{echelon_is_right}
 use Rattle.pm_relations.proofs.PrimitiveStanding.{hull_primitive, lineality_primitive}

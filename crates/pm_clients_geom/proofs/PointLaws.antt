@@ -3,8 +3,8 @@ use Rattle.pm_vector.proofs.Lists.{all_append, append_all}
 use Rattle.pm_vector.proofs.RowLaws.{dot_comm}
 use Rattle.pm_vector.specs.Rows.{Row, dot, entry}
 use Rattle.pm_clients_geom.specs.Points.{HasSolution}
-use Rattle.pm_elim.proofs.DotLaws.{dot-unit}
-use Rattle.pm_elim.specs.Evidence.{unit}
+use Rattle.pm_vector.proofs.DotLaws.{dot-unit}
+use Rattle.pm_vector.specs.Evidence.{unit}
 use Rattle.pm_geom.proofs.Duality.{direction_is_without_bound, infeasible_has_no_point, optimum_is_maximum}
 use Rattle.pm_geom.specs.Programs.{IsInfeasible, IsOptimal, IsUnbounded}
 use Rattle.pm_geom.specs.Programs as programs

@@ -7,14 +7,13 @@ use Rattle.pm_vector.proofs.RowLaws.{entry-times}
 use Rattle.pm_clients_geom.specs.Matrices.{MayBeRays}
 use Rattle.pm_types.specs.Parts.{cols_over, as_put}
 use Rattle.pm_clients_geom.specs.Rays.{ArePutRays, IsPutRay}
-use Rattle.pm_matrix.specs.Matrices.{FractionMatrix, IsFraction}
+use Rattle.pm_fraction.specs.Matrices.{FractionMatrix, IsFraction}
 use Rattle.pm_object_type.specs.declared.object_type.ObjectType.TheVariants.{Cone, Fan, Polytope}
 use Rattle.pm_object_type.specs.declared.object_type.ObjectType.{ObjectType}
 use Rattle.pm_props.specs.declared.property.PropId.TheVariants.{Vertices}
 use Rattle.pm_relations.proofs.Standing.{stands_ratios}
 use Rattle.pm_types.proofs.OverFirst.{over_fractions, over_one_first, over_primitive, over_stands}
-use Rattle.pm_types.proofs.WholeRows.{length_ratios}
-use Rattle.pm_types.proofs.WholeRows.{ratios_fractions, ratios_primitive}
+use Rattle.pm_types.proofs.WholeRows.{length_ratios, ratios_fractions, ratios_primitive}
 use Rattle.pm_types.specs.Canonical.{EachIs, IsRayRow}
 use Rattle.pm_types.specs.Forms.{HasPrimitiveRow, first_is_below, is_row, is_zero_row}
 use Rattle.pm_types.specs.Things.{Thing}

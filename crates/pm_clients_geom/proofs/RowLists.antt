@@ -6,14 +6,12 @@ use Rattle.pm_client.proofs.ReadValues.{all_length, primitive_length}
 use Rattle.pm_client.proofs.ViewLaws.{has_listed}
 use Rattle.pm_client.specs.Sound.{are_parts}
 use Rattle.pm_clients_geom.specs.Hulls.{AreFewRows}
-use Rattle.pm_props.specs.Properties.{number}
+use Rattle.pm_props.specs.Properties.{is_of_matrices, number, value_kind}
 use Rattle.pm_props.specs.Sets.{has, set_of}
 use Rattle.pm_object_type.specs.declared.object_type.ObjectType.{ObjectType}
-use Rattle.pm_matrix.specs.FractionRows.{ArePrimitiveRowsOf}
+use Rattle.pm_fraction.specs.FractionRows.{ArePrimitiveRowsOf}
 use Rattle.pm_types.proofs.PrimitiveRows.{few_rows}
 use Rattle.pm_types.specs.Forms.{FormsIn, HasPrimitiveRow, HavePrimitiveRows, is_matrix_form, rows_in}
-use Rattle.pm_props.specs.Properties.{is_of_matrices}
-use Rattle.pm_props.specs.Properties.{value_kind}
 use Rattle.pm_types.specs.Values.{PropertyValue, matrix}
 use Rattle.pm_props.specs.declared.property.PropId.TheVariants.{AffineHull, Equations, Facets, Inequalities, InputLineality, LinealitySpace, Points, Vertices}
 use Rattle.pm_props.specs.declared.property.PropId.{PropId}

@@ -2,10 +2,10 @@
 use Rattle.pm_vector.specs.Rows.{Row}
 use Rattle.pm_vector.specs.Numbers.{Ratio}
 use Rattle.pm_client.specs.Sound.{IsListOf, ReadsMatrix}
-use Rattle.pm_elim.specs.Evidence.{NoEvidence}
+use Rattle.pm_vector.specs.Evidence.{NoEvidence}
 use Rattle.pm_elim.specs.Lost.{IsLost, IsLostOnExtended}
-use Rattle.pm_elim.specs.declared.evidence.ElimList.{ElimList}
-use Rattle.pm_matrix.specs.FractionRows.{ArePrimitiveRowsOf}
+use Rattle.pm_vector.specs.declared.evidence.ElimList.{ElimList}
+use Rattle.pm_fraction.specs.FractionRows.{ArePrimitiveRowsOf}
 use Rattle.pm_object.specs.Reading.{ViewSeen}
 use Rattle.pm_props.specs.declared.property.PropId.{PropId}
 use Rattle.std.specs.Prelude.{List, ℕ}

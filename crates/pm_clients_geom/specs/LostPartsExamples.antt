@@ -6,7 +6,7 @@ use Rattle.pm_clients_geom.specs.Hulls.{ReadsLostParts}
 use Rattle.pm_clients_geom.specs.LostListExamples.{with_rays}
 use Rattle.pm_clients_geom.specs.PlacedRays.{PlaceFails}
 use Rattle.pm_clients_geom.specs.declared.placing.PlaceWork.TheVariants as work
-use Rattle.pm_elim.specs.EliminationSteps.{EliminationStep}
+use Rattle.pm_vector.specs.EliminationSteps.{EliminationStep}
 use Rattle.pm_elim.specs.LostExamples.{one_entry, two_rows}
 use Rattle.pm_geom.specs.declared.evidence.Evidence.TheVariants.{E1, E5Cells, E5Rows}
 use Rattle.pm_geom.specs.declared.evidence.Evidence.{Evidence}

@@ -5,7 +5,7 @@ use Rattle.pm_client.specs.Sound.{IsWideElimination}
 use Rattle.pm_client.specs.declared.ClientFail.TheVariants.{Failed, Memory}
 use Rattle.pm_clients_geom.specs.Redundancy.{AsksForPoint, FailsForProgram, RedundancyFails, ThinsByPrograms, ThinsHalvesByPrograms}
 use Rattle.pm_clients_geom.specs.Points.{HasSolution}
-use Rattle.pm_elim.specs.EliminationSteps.{EliminationStep}
+use Rattle.pm_vector.specs.EliminationSteps.{EliminationStep}
 use Rattle.pm_geom.specs.declared.evidence.Evidence.TheVariants.{E1, E4}
 use Rattle.pm_clients_geom.specs.declared.redundancy.RedundancyWork.TheVariants as redundancy
 use Rattle.pm_standard.specs.Table.{standard_kind}

@@ -10,7 +10,7 @@ use Rattle.pm_clients_geom.specs.declared.dims.DimWork.{DimWork}
 use Rattle.pm_clients_geom.specs.declared.dims.DimWork.TheVariants as dimension
 use Rattle.pm_clients_geom.specs.declared.rows.RowsWork.{RowsWork}
 use Rattle.pm_clients_geom.specs.declared.rows.RowsWork.TheVariants as rows
-use Rattle.pm_elim.specs.declared.evidence.ElimList.TheVariants as list
+use Rattle.pm_vector.specs.declared.evidence.ElimList.TheVariants as list
 use Rattle.pm_object.specs.Reading.{DraftSeen, ViewSeen, drafted}
 use Rattle.pm_props.specs.declared.property.PropId.TheVariants.{AffineHull, Equations, Facets, Inequalities, InputLineality, LinealitySpace, Points, Vertices}
 use Rattle.pm_props.specs.declared.property.PropId.{PropId}

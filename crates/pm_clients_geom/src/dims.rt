@@ -5,7 +5,7 @@ ghost use Rattle.pm_client.specs.Sound.{EliminatesRows, FailsRightly, IsSound, a
 ghost use Rattle.pm_client.specs.declared.ClientFail.TheVariants.{Memory};
 ghost use Rattle.pm_clients_geom.specs.Lists.{IsLostList, StaysInRange};
 ghost use Rattle.pm_clients_geom.specs.Ranks.{IsListRank};
-ghost use Rattle.pm_elim.specs.declared.evidence.ElimList.TheVariants as list;
+ghost use Rattle.pm_vector.specs.declared.evidence.ElimList.TheVariants as list;
 ghost use Rattle.pm_object.specs.Reading.{IsView};
 ghost use Rattle.pm_standard.specs.Table.{standard_kind};
 ghost use Rattle.pm_props.specs.Sets.{has};

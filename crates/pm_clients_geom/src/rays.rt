@@ -8,8 +8,7 @@ ghost use Rattle.pm_clients_geom.specs.Rays.{ArePutRays, IsPutRay};
 ghost use Rattle.std.specs.Prelude.{All, IfErr, IfOk, IsTrue, length, pos, ◌<◌, ◌≡◌, ◌≤ℤ◌, ◌↔◌};
 
 use pm_client::ClientFail;
-use pm_fraction::Fraction;
-use pm_matrix::{Matrix, MatrixFail};
+use pm_fraction::{Fraction, Matrix, MatrixFail};
 use pm_types::{ObjectType, over_first, over_one};
 use pm_vector::Ints;
 use std::alloc::Global;

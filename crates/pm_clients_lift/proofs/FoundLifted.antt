@@ -17,8 +17,8 @@ use Rattle.pm_lift.proofs.SameSites.{cells_of_same_sites, direction_back, entry-
 use Rattle.pm_lift.specs.Refusals.{IsLiftFail, IsRaiseFail}
 use Rattle.pm_lift.specs.declared.fails.LiftFail.{LiftFail}
 use Rattle.pm_lift.specs.declared.fails.LiftFail.TheVariants as lift
-use Rattle.pm_matrix.specs.FractionRows.{ArePrimitiveRowsOf}
-use Rattle.pm_matrix.specs.Matrices.{IsFraction}
+use Rattle.pm_fraction.specs.FractionRows.{ArePrimitiveRowsOf}
+use Rattle.pm_fraction.specs.Matrices.{IsFraction}
 use Rattle.pm_object.specs.Reading.{DraftSeen, ViewSeen, fact_of}
 use Rattle.pm_object_type.specs.declared.object_type.ObjectType.{ObjectType}
 use Rattle.pm_object_type.specs.declared.object_type.ObjectType.TheVariants.{Cone, Fan, Polytope}

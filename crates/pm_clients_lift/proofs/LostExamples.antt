@@ -7,8 +7,8 @@ use Rattle.pm_clients_lift.specs.LostExamples.{LostSitesAreRead, with_sites}
 use Rattle.pm_lift.proofs.LostExamples.{lost_cells_are_read}
 use Rattle.pm_lift.specs.Examples.{far, greatest, one_half, pair, ratio_of}
 use Rattle.pm_lift.specs.Lost.{LiftingIsLost, RaisingIsLost}
-use Rattle.pm_matrix.specs.FractionRows.{ArePrimitiveRowsOf}
-use Rattle.pm_matrix.specs.Matrices.{IsFraction}
+use Rattle.pm_fraction.specs.FractionRows.{ArePrimitiveRowsOf}
+use Rattle.pm_fraction.specs.Matrices.{IsFraction}
 use Rattle.pm_types.specs.Views.{ratios}
 use Rattle.pm_vector.specs.Numbers.{Ratio}
 use Rattle.pm_vector.specs.Rows.{Row, entry}

@@ -6,7 +6,7 @@ use Rattle.pm_geom.specs.Cells.{AreCells, squares}
 use Rattle.pm_lift.specs.Lost.{LiftingIsLost, RaisingIsLost}
 use Rattle.pm_lift.specs.declared.fails.LiftFail.{LiftFail}
 use Rattle.pm_lift.specs.declared.fails.LiftFail.TheVariants as lift
-use Rattle.pm_matrix.specs.Matrices.{IsFraction}
+use Rattle.pm_fraction.specs.Matrices.{IsFraction}
 use Rattle.pm_object.specs.Reading.{ViewSeen}
 use Rattle.pm_props.specs.Sets.{set_of}
 use Rattle.pm_props.specs.declared.kind.Kind.{Kind}

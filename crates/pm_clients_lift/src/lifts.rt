@@ -4,7 +4,7 @@ ghost use Rattle.pm_client.specs.Fails.{IfOutOfRange};
 ghost use Rattle.pm_client.specs.Sound.{FailsRightly, IsSound, ReadsHeights};
 ghost use Rattle.pm_client.specs.declared.ClientFail.TheVariants.{Memory};
 ghost use Rattle.pm_clients_lift.specs.LiftedSites.{AreCellsPut, AreDelaunayPut, AreReadSites, LiftsSites, RaisesSites, ReadsLostDelaunaySites, ReadsLostSites, fail_of_lift};
-ghost use Rattle.pm_matrix.specs.Matrices.{IsFraction};
+ghost use Rattle.pm_fraction.specs.Matrices.{IsFraction};
 ghost use Rattle.pm_object.specs.Reading.{IsView};
 ghost use Rattle.pm_props.specs.Sets.{has, set_of};
 ghost use Rattle.pm_props.specs.declared.property.PropId.TheVariants as property;

@@ -6,7 +6,7 @@ use Rattle.pm_clients_lp.specs.Clients.{dual}
 use Rattle.pm_clients_lp.specs.Programs.{IsDualMatrixOf, cols_over, weighted}
 use Rattle.pm_dual.specs.declared.answer.LpAnswer.TheVariants.{Infeasible, Optimal, Unbounded}
 use Rattle.pm_dual.specs.declared.answer.LpAnswer.{LpAnswer}
-use Rattle.pm_matrix.specs.Matrices.{FractionMatrix, IsMatrix}
+use Rattle.pm_fraction.specs.Matrices.{FractionMatrix, IsMatrix}
 use Rattle.pm_object_type.specs.declared.object_type.ObjectType.TheVariants.{Cone, Fan, Polytope}
 use Rattle.pm_object_type.specs.declared.object_type.ObjectType.{ObjectType}
 use Rattle.pm_props.specs.declared.property.PropId.TheVariants.{MaximalDual, MinimalDual}

@@ -7,7 +7,7 @@ use Rattle.pm_client.proofs.ReadValues.{all_length, found, primitive_length}
 use Rattle.pm_client.specs.Sound.{AreRowsOf, ReadsObjective}
 use Rattle.pm_clients_lp.specs.Reading.{is_of_rows}
 use Rattle.pm_geom.specs.Things.{Orders}
-use Rattle.pm_matrix.specs.FractionRows.{ArePrimitiveRowsOf}
+use Rattle.pm_fraction.specs.FractionRows.{ArePrimitiveRowsOf}
 use Rattle.pm_object.specs.Reading.{IsView, ViewSeen, fact_of}
 use Rattle.pm_props.specs.Places.{place_of}
 use Rattle.pm_props.specs.Properties.{has_program, is_of_matrices, value_kind}

@@ -26,7 +26,7 @@ use Rattle.pm_geom.specs.Faces.{ray}
 use Rattle.pm_geom.specs.Programs.{Solves}
 use Rattle.pm_geom.specs.Things.{Orders}
 use Rattle.pm_incidence.specs.Thinning.{half_spaces}
-use Rattle.pm_matrix.specs.Matrices.{FractionMatrix, IsMatrix}
+use Rattle.pm_fraction.specs.Matrices.{FractionMatrix, IsMatrix}
 use Rattle.pm_object.specs.Reading.{DraftSeen, IsView, ViewSeen}
 use Rattle.pm_object_type.specs.declared.object_type.ObjectType.TheVariants.{Polytope}
 use Rattle.pm_props.specs.declared.property.PropId.TheVariants.{AffineHull, Equations, Facets, Inequalities}

@@ -5,8 +5,8 @@ use Rattle.pm_vector.proofs.RowLaws.{dot-same, dot_comm}
 use Rattle.pm_vector.specs.Cones.{InCone}
 use Rattle.pm_vector.specs.Numbers.{Ratio}
 use Rattle.pm_vector.specs.Rows.{HasCols, Row, Same, dot, entry}
-use Rattle.pm_elim.proofs.DotLaws.{dot-unit}
-use Rattle.pm_elim.specs.Evidence.{unit}
+use Rattle.pm_vector.proofs.DotLaws.{dot-unit}
+use Rattle.pm_vector.specs.Evidence.{unit}
 use Rattle.pm_geom.proofs.ValidRows.{null_in}
 use Rattle.pm_geom.specs.Programs.{IsMaximum}
 use Rattle.pm_types.specs.Programs.{IsGreatest}

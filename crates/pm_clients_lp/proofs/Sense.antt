@@ -6,7 +6,7 @@ use Rattle.pm_client.specs.Sound.{IsSound, optimum}
 use Rattle.pm_clients_lp.proofs.Facts.{read_at}
 use Rattle.pm_clients_lp.specs.Clients.{dual, face}
 use Rattle.pm_geom.specs.Things.{Orders}
-use Rattle.pm_matrix.specs.Matrices.{FractionMatrix, IsFraction}
+use Rattle.pm_fraction.specs.Matrices.{FractionMatrix, IsFraction}
 use Rattle.pm_object.specs.Reading.{DraftSeen, IsView, ViewSeen, fact_of}
 use Rattle.pm_props.specs.declared.property.PropId.TheVariants.{MaximalDual, MaximalFace, MaximalValue, MinimalDual, MinimalFace, MinimalValue}
 use Rattle.pm_props.specs.Sets.{set_of}

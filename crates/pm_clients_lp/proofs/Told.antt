@@ -11,8 +11,8 @@ use Rattle.pm_dd.specs.Fronts.{HalfSpaces}
 use Rattle.pm_dual.specs.Answers.{IsAnswer}
 use Rattle.pm_dual.specs.declared.answer.LpAnswer.TheVariants.{Infeasible, Optimal, Unbounded}
 use Rattle.pm_dual.specs.declared.answer.LpAnswer.{LpAnswer}
-use Rattle.pm_elim.proofs.DotLaws.{dot-unit}
-use Rattle.pm_elim.specs.Evidence.{unit}
+use Rattle.pm_vector.proofs.DotLaws.{dot-unit}
+use Rattle.pm_vector.specs.Evidence.{unit}
 use Rattle.pm_geom.proofs.Duality.{direction_is_without_bound, infeasible_has_no_point, optimum_is_maximum}
 use Rattle.pm_geom.specs.Programs.{Solves}
 use Rattle.pm_incidence.specs.Thinning.{half_spaces}

@@ -11,8 +11,7 @@ ghost use Rattle.pm_types.specs.Views.{extended_of};
 ghost use Rattle.std.specs.Prelude.{IfErr, IfOk, length, ◌+◌, ◌<◌, ◌^◌, ◌≡◌};
 
 use crate::duals::dual_rows;
-use pm_fraction::Fraction;
-use pm_matrix::Matrix;
+use pm_fraction::{Fraction, Matrix};
 use pm_simplex::{LpAnswer, LpFail, Sense, maximise_by_dictionaries};
 use pm_types::Number;
 use pm_vector::Ints;

@@ -3,7 +3,7 @@
 ghost use Rattle.pm_client.specs.Sound.{AreRowsOf, ReadsObjective};
 ghost use Rattle.pm_client.specs.declared.ClientFail.TheVariants.{Memory};
 ghost use Rattle.pm_clients_lp.specs.Reading.{is_of_rows};
-ghost use Rattle.pm_matrix.specs.Matrices.{IsFraction};
+ghost use Rattle.pm_fraction.specs.Matrices.{IsFraction};
 ghost use Rattle.pm_object.specs.Reading.{drafted};
 ghost use Rattle.pm_props.specs.Sets.{has};
 ghost use Rattle.pm_props.specs.declared.property.PropId.TheVariants as property;

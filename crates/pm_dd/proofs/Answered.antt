@@ -11,7 +11,7 @@ use Rattle.pm_vector.specs.Rows.{HasCols, Row}
 use Rattle.pm_vector.proofs.Ring.{ring}
 use Rattle.pm_vector.proofs.RowLaws.{entry-times}
 use Rattle.pm_vector.proofs.Lists.{all_from, among_All}
-use Rattle.pm_elim.specs.NullSpaces.{IsNullBasis}
+use Rattle.pm_vector.specs.NullSpaces.{IsNullBasis}
 use Rattle.pm_elim.proofs.DualLaws.{null_basis_unique}
 use Rattle.pm_geom.specs.Cones.{CutOut, IsExtreme, IsOrder, SameModulo}
 use Rattle.pm_geom.specs.Faces.{ray}

@@ -13,8 +13,8 @@ use Rattle.pm_vector.proofs.Lists.{Among, Contains_among, all_append, all_at, al
 use Rattle.pm_vector.specs.Bases.{IsRank, SameSpan, row_at}
 use Rattle.pm_vector.proofs.Rank.{rank_is_determined}
 use Rattle.pm_vector.proofs.Spans.{same_span, same_span_sym, span_from}
-use Rattle.pm_elim.proofs.DotLaws.{null_of_span}
-use Rattle.pm_elim.specs.NullSpaces.{IsNull, IsNullBasis}
+use Rattle.pm_vector.proofs.DotLaws.{null_of_span}
+use Rattle.pm_vector.specs.NullSpaces.{IsNull, IsNullBasis}
 use Rattle.pm_geom.specs.Cones.{CutOut, InLineality, IsExtreme, IsOrder}
 use Rattle.pm_geom.specs.Faces.{ray}
 use Rattle.pm_geom.specs.Generators.{IsCanonicalRay, IsLinealityBasis, VanishAt}

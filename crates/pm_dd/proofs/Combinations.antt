@@ -9,7 +9,7 @@ use Rattle.pm_dd.specs.Description.{combined}
 use Rattle.pm_dd.specs.StepFails.{IfColumn, IsCombinationFail, IsWideFactors}
 use Rattle.pm_dd.specs.declared.fails.CombinationFail.{CombinationFail}
 use Rattle.pm_dd.specs.declared.fails.CombinationFail.TheVariants.{Column, First, NoMemory, Second}
-use Rattle.pm_elim.specs.Steps.{IsFactors}
+use Rattle.pm_vector.specs.Steps.{IsFactors}
 use Rattle.std.specs.Prelude.{ℕ, zero, suc, ◌≡◌, ◌⊎◌, length}
 use Rattle.std.proofs.Common.{arith, inl, inr, refl, sym, ◌∙◌}
 use Rattle.std.proofs.lemmas.Int.{ints}

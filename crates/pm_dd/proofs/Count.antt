@@ -14,7 +14,7 @@ use Rattle.pm_vector.proofs.ConeLaws.{in_generator, in_line, in_line_opposite, i
 use Rattle.pm_vector.specs.Bases.{IsRank, row_at}
 use Rattle.pm_vector.proofs.Rank.{independent_are_few}
 use Rattle.pm_vector.proofs.Spans.{same_span_refl, span_at, span_from, span_of, span_to, span_times}
-use Rattle.pm_elim.proofs.DotLaws.{dot_span_zero}
+use Rattle.pm_vector.proofs.DotLaws.{dot_span_zero}
 use Rattle.pm_geom.specs.Cones.{CutOut, IsExtreme, IsOrder, Vanishes}
 use Rattle.pm_geom.specs.Faces.{ray}
 use Rattle.pm_geom.proofs.Polar.{cols_at, cut_at, cut_from}

@@ -13,7 +13,7 @@ use Rattle.pm_vector.specs.Bases.{row_at}
 use Rattle.pm_vector.specs.BasisExamples.{pair}
 use Rattle.pm_vector.proofs.BasisExamples.{primitive_by_one}
 use Rattle.pm_vector.proofs.Spans.{span_times}
-use Rattle.pm_elim.specs.Enlarging.{MarkEnlarging}
+use Rattle.pm_vector.specs.Enlarging.{MarkEnlarging}
 use Rattle.pm_geom.specs.Cones.{CutOut, InLineality, IsExtreme}
 use Rattle.pm_geom.specs.Faces.{ray}
 use Rattle.pm_geom.specs.Generators.{AreGenerators, IsBefore}

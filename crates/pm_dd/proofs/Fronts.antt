@@ -15,8 +15,8 @@ use Rattle.pm_vector.proofs.ConeLaws.{in_line}
 use Rattle.pm_vector.specs.Bases.{IsRank, SameSpan, row_at}
 use Rattle.pm_vector.proofs.Rank.{independent_are_few}
 use Rattle.pm_vector.proofs.Spans.{same_span, same_span_sym, same_span_trans, span_from, span_of}
-use Rattle.pm_elim.specs.NullSpaces.{IsNull}
-use Rattle.pm_elim.proofs.DotLaws.{dot_span_zero}
+use Rattle.pm_vector.specs.NullSpaces.{IsNull}
+use Rattle.pm_vector.proofs.DotLaws.{dot_span_zero}
 use Rattle.pm_geom.specs.Cones.{CutOut, InLineality, IsExtreme, IsOrder, MultipleModulo, SameModulo}
 use Rattle.pm_geom.specs.Faces.{ray}
 use Rattle.pm_geom.proofs.Polar.{cols_at, cut_at, cut_from, membership_decided}

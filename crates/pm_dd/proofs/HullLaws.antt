@@ -15,8 +15,8 @@ use Rattle.pm_dd.specs.Fronts.{HalfSpaces, both_signs}
 use Rattle.pm_dd.proofs.Fronts.{signs_cut_out}
 use Rattle.pm_dd.proofs.MixedLaws.{generators_as}
 use Rattle.pm_dd.proofs.ZeroRows.{dot_zero, no_basis, zero_of_span}
-use Rattle.pm_elim.specs.Evidence.{IsBasisOf, unit}
-use Rattle.pm_elim.proofs.DotLaws.{dot-unit, null_of_span}
+use Rattle.pm_vector.specs.Evidence.{IsBasisOf, unit}
+use Rattle.pm_vector.proofs.DotLaws.{dot-unit, null_of_span}
 use Rattle.pm_elim.proofs.PrefixLaws.{at_most_columns}
 use Rattle.pm_geom.specs.Cones.{CutOut, InLineality, IsExtreme, IsValid}
 use Rattle.pm_geom.specs.Generators.{AreGenerators}

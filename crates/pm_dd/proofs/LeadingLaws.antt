@@ -5,7 +5,7 @@ use Rattle.std.proofs.Math.Seq.{take-append_seam, take-length}
 use Rattle.std.proofs.lemmas.List.{drop_more, length-drop, length_push}
 use Rattle.pm_vector.specs.Rows.{Row, opposite}
 use Rattle.pm_vector.specs.Bases.{row_at}
-use Rattle.pm_elim.specs.Enlarging.{MarkEnlarging}
+use Rattle.pm_vector.specs.Enlarging.{MarkEnlarging}
 use Rattle.pm_geom.specs.StatedOrder.{rows_marked}
 use Rattle.pm_dd.specs.Arrangement.{IsArrangement, Leads, alternating}
 use Rattle.pm_dd.specs.Fronts.{both_signs}

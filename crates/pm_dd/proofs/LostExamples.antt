@@ -15,7 +15,7 @@ use Rattle.pm_vector.proofs.DivisorLaws.{IsPrimitiveOf-from_one, one-from_primit
 use Rattle.pm_vector.proofs.Lists.{Among, among_All, here, there}
 use Rattle.pm_vector.proofs.Rank.{rank_is_determined}
 use Rattle.pm_vector.proofs.Ring.{ring}
-use Rattle.pm_elim.specs.Enlarging.{MarkEnlarging}
+use Rattle.pm_vector.specs.Enlarging.{MarkEnlarging}
 use Rattle.pm_geom.specs.Cones.{CutOut, InLineality, IsExtreme}
 use Rattle.pm_geom.specs.Faces.{ray}
 use Rattle.pm_geom.specs.Generators.{IsCanonicalRay}

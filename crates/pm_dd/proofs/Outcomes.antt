@@ -4,7 +4,7 @@ use Rattle.pm_dd.specs.Lost.{IfWide}
 use Rattle.pm_dd.specs.Refusals.{fail_of_elimination}
 use Rattle.pm_dd.specs.declared.fails.DdFail.{DdFail}
 use Rattle.pm_dd.specs.declared.fails.DdFail.TheVariants.{Many, Memory, Wide}
-use Rattle.pm_elim.specs.Evidence.{IfWide as IfWideElimination}
+use Rattle.pm_elim.specs.Refusals.{IfWide as IfWideElimination}
 use Rattle.pm_elim.specs.declared.evidence.ElimFail.{ElimFail}
 use Rattle.pm_elim.specs.declared.evidence.ElimFail.TheVariants.{Memory as ElimMemory, Wide as ElimWide}
 

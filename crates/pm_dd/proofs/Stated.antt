@@ -15,7 +15,7 @@ use Rattle.pm_vector.specs.Bases.{IsRank, SameSpan, row_at}
 use Rattle.pm_vector.proofs.Rank.{rank_is_determined}
 use Rattle.pm_vector.proofs.Spans.{same_span, same_span_refl, same_span_sym, same_span_trans, span_of}
 use Rattle.pm_bits.specs.Sets.{has}
-use Rattle.pm_elim.specs.Enlarging.{MarkEnlarging}
+use Rattle.pm_vector.specs.Enlarging.{MarkEnlarging}
 use Rattle.pm_geom.specs.Cones.{CutOut, SameModulo}
 use Rattle.pm_geom.specs.Faces.{ray}
 use Rattle.pm_geom.proofs.Independent.{combination_append, independent_more}

@@ -13,9 +13,9 @@ use Rattle.pm_vector.proofs.Lists.{Among, among_All, among_append}
 use Rattle.pm_vector.proofs.Ring.{ring}
 use Rattle.pm_vector.proofs.RowLaws.{entry-opposite, entry-times}
 use Rattle.pm_vector.specs.Bases.{row_at}
-use Rattle.pm_elim.specs.EliminationSteps.{EliminationStep}
-use Rattle.pm_elim.specs.Evidence.{IsEvidence, IsWideStep}
-use Rattle.pm_elim.specs.Steps.{IsFactors, IsPivotRow, ReducedBy, StepIsWide}
+use Rattle.pm_vector.specs.EliminationSteps.{EliminationStep}
+use Rattle.pm_vector.specs.Evidence.{IsEvidence, IsWideStep}
+use Rattle.pm_vector.specs.Steps.{IsFactors, IsPivotRow, ReducedBy, StepIsWide}
 use Rattle.pm_geom.specs.RayEvidence.{IsCrowded, IsEliminationEvidence, IsWideNext, IsWidePair}
 use Rattle.pm_geom.specs.StatedOrder.{rows_marked}
 use Rattle.pm_geom.specs.declared.evidence.Evidence.TheVariants.{E1, E2, E5Rays}

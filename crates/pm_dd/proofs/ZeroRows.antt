@@ -2,8 +2,8 @@
 use Rattle.std.specs.Prelude.{ℕ, ◌≡◌, ◌∷◌, [], List, length}
 use Rattle.std.proofs.Common.{arith, inl, inr, refl, ◌∙◌}
 use Rattle.std.proofs.lemmas.Int.{ints}
-use Rattle.pm_elim.specs.NullSpaces.{IsNull, IsNullBasis}
-use Rattle.pm_elim.proofs.Independent.{decide_zero, independent_more, orthogonal_are_few, self_zero}
+use Rattle.pm_vector.specs.NullSpaces.{IsNull, IsNullBasis}
+use Rattle.pm_vector.proofs.Independent.{decide_zero, independent_more, orthogonal_are_few, self_zero}
 use Rattle.pm_vector.specs.Cones.{InSpan, IsIndependent}
 use Rattle.pm_vector.specs.Rows.{HasCols, IsZero, Row, dot, times}
 use Rattle.pm_vector.proofs.Lists.{Among, all_at, all_from, here, there}

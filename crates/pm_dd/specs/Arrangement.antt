@@ -1,7 +1,7 @@
 -- In which order the rows of a list are taken.
 use Rattle.std.specs.Prelude.{ℕ, ◌*◌, ◌≡◌, ◌≤◌, Bool, true, false, List, [], ◌∷◌, ◌++◌, drop, length, map, take}
 use Rattle.pm_vector.specs.Rows.{Row, opposite}
-use Rattle.pm_elim.specs.Enlarging.{MarkEnlarging}
+use Rattle.pm_vector.specs.Enlarging.{MarkEnlarging}
 use Rattle.pm_geom.specs.StatedOrder.{rows_marked}
 use Rattle.pm_dd.specs.Fronts.{both_signs}
 

@@ -3,7 +3,7 @@ use Rattle.std.specs.Prelude.{ℕ, ◌≡◌, List}
 use Rattle.std.specs.List.{All}
 use Rattle.pm_vector.specs.Divisors.{IsPrimitive}
 use Rattle.pm_vector.specs.Rows.{Row, entry}
-use Rattle.pm_elim.specs.NullSpaces.{IsNullBasis}
+use Rattle.pm_vector.specs.NullSpaces.{IsNullBasis}
 use Rattle.pm_geom.specs.Generators.{VanishAt}
 use lib.IntN.{pos}
 

@@ -3,7 +3,7 @@ use Rattle.std.specs.Prelude.{ℕ, suc, ◌≡◌, ◌<◌, ◌≤◌, ◌↔◌
 use Rattle.pm_vector.specs.Rows.{Row, opposite, HasCols}
 use Rattle.pm_vector.specs.Cones.{InSpan, IsIndependent}
 use Rattle.pm_vector.specs.Bases.{IsRank, SameSpan, row_at}
-use Rattle.pm_elim.specs.NullSpaces.{IsNull}
+use Rattle.pm_vector.specs.NullSpaces.{IsNull}
 use Rattle.pm_geom.specs.Cones.{CutOut, IsOrder}
 use Rattle.pm_dd.specs.Description.{IsRayStep, IsNext, AreDualRays, Source}
 

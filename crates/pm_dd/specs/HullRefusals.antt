@@ -4,7 +4,7 @@ use Rattle.pm_vector.specs.Rows.{Row}
 use Rattle.pm_dd.specs.Fronts.{both_signs}
 use Rattle.pm_dd.specs.Refusals.{IsEliminationFail, IsShown}
 use Rattle.pm_dd.specs.declared.fails.DdFail.{DdFail}
-use Rattle.pm_elim.specs.Evidence.{IsBasisOf}
+use Rattle.pm_vector.specs.Evidence.{IsBasisOf}
 
 -- D is l1, -l1, l2, -l2, .. for the echelon basis l1, l2, .. of the rows L, and then the rows G
 pub record IsDoubleList (n : ℕ) (L G D : List Row) : Type 0 where

@@ -3,7 +3,7 @@
 use Rattle.std.specs.Prelude.{ℕ, ◌≡◌, ◌⊎◌, List, [], ◌∷◌, ◌++◌, length}
 use Rattle.pm_vector.specs.Rows.{Row, entry, IsZero}
 use Rattle.pm_dd.specs.Fronts.{HalfSpaces}
-use Rattle.pm_elim.specs.Evidence.{unit}
+use Rattle.pm_vector.specs.Evidence.{unit}
 use Rattle.pm_geom.specs.Cones.{IsValid}
 use Rattle.pm_geom.specs.Generators.{AreGenerators}
 use Rattle.pm_object_type.specs.declared.object_type.ObjectType.{ObjectType}

@@ -5,7 +5,7 @@ use Rattle.pm_vector.specs.Numbers.{InRange}
 use Rattle.pm_vector.specs.Rows.{HasCols, Row}
 use Rattle.pm_vector.specs.Bases.{row_at}
 use Rattle.pm_bits.specs.Table.{Table}
-use Rattle.pm_elim.specs.Enlarging.{MarkEnlarging}
+use Rattle.pm_vector.specs.Enlarging.{MarkEnlarging}
 use Rattle.pm_elim.specs.Lost.{IsLost, IsLostOnExtended, IsLostWithoutOne}
 use Rattle.pm_geom.specs.Cones.{CutOut}
 use Rattle.pm_geom.specs.Faces.{ray}

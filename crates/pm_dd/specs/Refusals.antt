@@ -1,7 +1,7 @@
 -- What the refusals of double description show of the rows X, with n entries each, that were handed in.
 use Rattle.std.specs.Prelude.{ℕ, List}
 use Rattle.pm_vector.specs.Rows.{HasCols, Row}
-use Rattle.pm_elim.specs.Evidence.{IsEvidence}
+use Rattle.pm_vector.specs.Evidence.{IsEvidence}
 use Rattle.pm_elim.specs.declared.evidence.ElimFail.{ElimFail}
 use Rattle.pm_elim.specs.declared.evidence.ElimFail.TheVariants.{Memory as ElimMemory, Wide as ElimWide}
 use Rattle.pm_geom.specs.RayEvidence.{IsCrowded, IsEliminationEvidence, IsWidePair}

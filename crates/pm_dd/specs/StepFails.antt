@@ -5,7 +5,7 @@ use Rattle.pm_vector.specs.Rows.{Row, entry}
 use Rattle.pm_vector.specs.Bases.{row_at}
 use Rattle.pm_bits.specs.Sets.{IsIntersection}
 use Rattle.pm_bits.specs.Table.{Table, OtherContains}
-use Rattle.pm_elim.specs.Steps.{IsFactors}
+use Rattle.pm_vector.specs.Steps.{IsFactors}
 use Rattle.pm_geom.specs.Cones.{IsExtreme, SameModulo}
 use Rattle.pm_geom.specs.Faces.{ray}
 use Rattle.pm_vector.specs.Differences.{EntryStays}

@@ -3,10 +3,10 @@ use Rattle.std.specs.Prelude.{ℕ, ◌<◌, ◌≤◌, ◌^◌, Bool, true, List
 use Rattle.std.specs.List.{All, AllPairs}
 use Rattle.pm_vector.specs.Rows.{Row, entry}
 use Rattle.pm_vector.specs.Bases.{row_at}
-use Rattle.pm_elim.specs.Enlarging.{MarkEnlarging}
-use Rattle.pm_elim.specs.Evidence.{IsBasisOf, Lists}
-use Rattle.pm_elim.specs.Steps.{ReducedBy}
-use Rattle.pm_elim.specs.declared.evidence.ElimList.{ElimList}
+use Rattle.pm_vector.specs.Enlarging.{MarkEnlarging}
+use Rattle.pm_vector.specs.Evidence.{IsBasisOf, Lists}
+use Rattle.pm_vector.specs.Steps.{ReducedBy}
+use Rattle.pm_vector.specs.declared.evidence.ElimList.{ElimList}
 use Rattle.pm_geom.specs.Cones.{CutOut, IsExtreme, SameModulo}
 use Rattle.pm_geom.specs.Generators.{IsCanonicalRay}
 use Rattle.pm_geom.specs.StatedOrder.{IsStatedFront, rows_marked}

@@ -6,7 +6,7 @@ ghost use Rattle.pm_dd.specs.Lost.{DescriptionIsLost, IfWide};
 ghost use Rattle.pm_dd.specs.Refusals.{IsEliminationFail, IsMemory, IsShown};
 ghost use Rattle.pm_dd.specs.Tame.{AreTame};
 ghost use Rattle.pm_elim.specs.Lost.{IsLostOnExtended};
-ghost use Rattle.pm_elim.specs.NullSpaces.{IsNullBasis};
+ghost use Rattle.pm_vector.specs.NullSpaces.{IsNullBasis};
 ghost use Rattle.pm_geom.specs.Cones.{CutOut};
 ghost use Rattle.pm_geom.specs.Generators.{AreGenerators};
 ghost use Rattle.std.specs.Prelude.{IfErr, IfNone, IfOk, IfSome, List, length, true, ◌<◌, ◌^◌, ◌≡◌, ◌≤◌, ℕ};

@@ -8,17 +8,17 @@ ghost use Rattle.pm_dd.specs.Lost.{DualsAreLost, IfWide};
 ghost use Rattle.pm_dd.specs.Refusals.{IsShownOnRows};
 ghost use Rattle.pm_dd.specs.Tables.{IsRayTable};
 ghost use Rattle.pm_elim.specs.Duals.{IfDependent, IfDualWide};
-ghost use Rattle.pm_elim.specs.Evidence.{IsEvidence};
+ghost use Rattle.pm_vector.specs.Evidence.{IsEvidence};
 ghost use Rattle.pm_elim.specs.Lost.{HasNoWideDuals};
 ghost use Rattle.std.specs.Prelude.{IfErr, IfOk, length, take, true, ◌*◌, ◌++◌, ◌+◌, ◌<◌, ◌^◌, ◌≡◌, ◌≤◌};
 
 use crate::fails::DdFail;
 use crate::rays::Rays;
 use pm_bits::{BitRow, BitTable};
-use pm_elim::{DualFail, copies, dual_basis_by};
+use pm_elim::{DualFail, dual_basis_by};
 use pm_geom::{Evidence, RowList};
 use pm_limits::MOST_ROWS;
-use pm_vector::Ints;
+use pm_vector::{Ints, copies};
 use std::alloc::{AllocError, Global};
 
 /// A row of bits in which those before a place are set, but one.

@@ -7,17 +7,16 @@ ghost use Rattle.pm_geom.specs.Generators.{AreGenerators};
 ghost use Rattle.pm_dd.specs.HullRefusals.{IsShownOnParts};
 ghost use Rattle.pm_dd.specs.Hulls.{AreFacets, InConeOf, InPolytopeCone, half_spaces_of};
 ghost use Rattle.pm_dd.specs.Lost.{IfWide, PartsAreLost};
-ghost use Rattle.pm_elim.specs.Evidence.{unit};
+ghost use Rattle.pm_vector.specs.Evidence.{unit};
 ghost use Rattle.std.specs.Prelude.{Any, IfErr, IfOk, IsTrue, [], length, pos, true, ◌++◌, ◌<ℤ◌, ◌<◌, ◌^◌, ◌∷◌, ◌≡◌, ◌≢◌, ◌≤◌, ◌↔◌};
 ghost use Rattle.pm_limits.specs.Limits.{most_rows};
 
 use crate::extreme::{few_rays, rays_of};
 use crate::fails::DdFail;
 use crate::parts::double_list;
-use pm_elim::copies;
 use pm_geom::descriptions::{Facets, Generators};
 use pm_object_type::ObjectType;
-use pm_vector::Ints;
+use pm_vector::{Ints, copies};
 use std::alloc::{AllocError, Global};
 
 /// The generators of the cone that half-spaces and equations cut out; with `sorts`, first by the lexicographic order.

@@ -5,8 +5,7 @@ ghost use Rattle.std.specs.Prelude.{IfOk, length, ◌≤◌};
 
 use crate::leading::leading_pairs;
 use crate::parts::add_copies;
-use pm_elim::copies;
-use pm_vector::Ints;
+use pm_vector::{Ints, copies};
 use std::alloc::{AllocError, Global};
 
 /// The rows, taken alternately from both ends.

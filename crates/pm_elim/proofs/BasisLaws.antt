@@ -6,12 +6,12 @@ use Rattle.pm_vector.proofs.Unique.{echelon_is_unique}
 use Rattle.pm_vector.specs.Bases.{IsEchelonBasis, SameSpan, row_at}
 use Rattle.pm_elim.proofs.RoundLaws.{span_with_row}
 use Rattle.pm_elim.specs.Bases.{IsSomeEchelonBasis}
-use Rattle.pm_elim.specs.Evidence.{IfWide, IsBasisOf, IsWideRound, IsWideStep}
-use Rattle.pm_elim.specs.Refusals.{IfWideStep, IsFailOf, TellsOf}
-use Rattle.pm_elim.specs.EliminationSteps.{EliminationStep}
+use Rattle.pm_elim.specs.Refusals.{IfWide, IfWideStep, IsFailOf, TellsOf}
+use Rattle.pm_vector.specs.Evidence.{IsBasisOf, IsWideRound, IsWideStep}
+use Rattle.pm_vector.specs.EliminationSteps.{EliminationStep}
 use Rattle.pm_elim.specs.declared.evidence.ElimFail.{ElimFail}
 use Rattle.pm_elim.specs.declared.evidence.ElimFail.TheVariants.{Memory, Wide}
-use Rattle.pm_elim.specs.declared.evidence.ElimList.{ElimList}
+use Rattle.pm_vector.specs.declared.evidence.ElimList.{ElimList}
 use Rattle.pm_elim.specs.declared.refusal.Refusal.{Refusal}
 use Rattle.pm_elim.specs.declared.refusal.Refusal.TheVariants.{Memory as StepMemory, Wide as StepWide}
 use Rattle.pm_elim.specs.declared.refusal.WideStep.{WideStep}

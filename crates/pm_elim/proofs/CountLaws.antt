@@ -10,7 +10,7 @@ use Rattle.pm_elim.proofs.ExtendedLaws.{combination_last, first_entry}
 use Rattle.pm_elim.proofs.InTurn.{pivot_below}
 use Rattle.pm_elim.proofs.PrefixLaws.{pivot_at_least}
 use Rattle.pm_elim.proofs.TailLaws.{late}
-use Rattle.pm_elim.specs.Evidence.{IsBasisOf, IsExtended}
+use Rattle.pm_vector.specs.Evidence.{IsBasisOf, IsExtended}
 use Rattle.pm_elim.specs.ExtendedLists.{AreTails, IsExtendedBasis}
 use Rattle.std.proofs.Common.{ap, arith, inl, inr, sym, ◌∙◌}
 use Rattle.std.proofs.lemmas.Bool.{cases_eq, cases_lt}

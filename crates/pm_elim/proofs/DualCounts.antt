@@ -6,8 +6,8 @@ use Rattle.pm_vector.specs.Bases.{column}
 use Rattle.pm_vector.specs.Cones.{InSpan, IsIndependent}
 use Rattle.pm_vector.specs.Rows.{HasCols, Row, dot}
 use Rattle.pm_elim.proofs.DualLaws.{IsPivotOf, some_new}
-use Rattle.pm_elim.proofs.Independent.{orthogonal_are_few}
-use Rattle.pm_elim.specs.NullSpaces.{IsNullBasis}
+use Rattle.pm_vector.proofs.Independent.{orthogonal_are_few}
+use Rattle.pm_vector.specs.NullSpaces.{IsNullBasis}
 use Rattle.std.proofs.Common.{arith, subst}
 use Rattle.std.proofs.lemmas.List.Edits.{length-remove}
 use Rattle.std.specs.Prelude.{List, length, remove, ℕ, ◌+◌, ◌<◌, ◌≡◌, ◌≤◌}

@@ -9,14 +9,13 @@ use Rattle.pm_vector.specs.Divisors.{IsPrimitive}
 use Rattle.pm_vector.specs.Rows.{Row, difference, dot, entry, opposite}
 use Rattle.pm_vector.proofs.PrimitiveLaws.{primitive_unique}
 use Rattle.pm_vector.proofs.Columns.{coefficient, column_found, row_cols, zero_at_columns}
-use Rattle.pm_vector.proofs.Unique.{echelon_is_unique}
+use Rattle.pm_vector.proofs.Unique.{at_most, echelon_is_unique}
 use Rattle.pm_vector.proofs.Rank.{independent_are_few}
 use Rattle.pm_vector.proofs.Spans.{at_place, place_of, same_span, span_at, span_from}
 use Rattle.pm_vector.specs.Bases.{column, row_at}
-use Rattle.pm_vector.proofs.Unique.{at_most}
 use Rattle.pm_elim.specs.Duals.{DualBasisIsUnique, IsDualBasis, IsDualRow}
-use Rattle.pm_elim.specs.Evidence.{IsBasisOf}
-use Rattle.pm_elim.specs.NullSpaces.{IsNull, IsNullBasis}
+use Rattle.pm_vector.specs.Evidence.{IsBasisOf}
+use Rattle.pm_vector.specs.NullSpaces.{IsNull, IsNullBasis}
 use Rattle.std.proofs.Common.{ap, arith, below_more, inl, inr, refl, subst, sym, ◌∙◌}
 use Rattle.std.proofs.lemmas.Bool.{cases_eq, cases_lt}
 use Rattle.std.proofs.lemmas.Int.{by_lt_z, ints}

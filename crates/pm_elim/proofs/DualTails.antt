@@ -13,9 +13,9 @@ use Rattle.pm_elim.proofs.ExtendedLaws.{products_of_span}
 use Rattle.pm_elim.proofs.NullLaws.{tails_are_null_basis}
 use Rattle.pm_elim.proofs.TailLaws.{late, tail_column}
 use Rattle.pm_elim.specs.Duals.{IsDualBasis, IsDualRow}
-use Rattle.pm_elim.specs.Evidence.{IsBasisOf, IsExtended}
+use Rattle.pm_vector.specs.Evidence.{IsBasisOf, IsExtended}
 use Rattle.pm_elim.specs.ExtendedLists.{tail_columns, tails}
-use Rattle.pm_elim.specs.NullSpaces.{IsNullBasis}
+use Rattle.pm_vector.specs.NullSpaces.{IsNullBasis}
 use Rattle.std.proofs.Common.{ap, arith, inl, inr, refl, sym, ◌∙◌}
 use Rattle.std.proofs.lemmas.Bool.{cases_lt}
 use Rattle.std.proofs.lemmas.Int.{ints}

@@ -4,7 +4,7 @@ use Rattle.pm_vector.specs.Rows.{Row}
 use Rattle.pm_vector.proofs.Rank.{basis_gives_rank, rank_is_determined}
 use Rattle.pm_vector.proofs.Spans.{same_span_appended, same_span_sym, same_span_trans, span_from, span_to}
 use Rattle.pm_vector.specs.Bases.{IsEchelonBasis, SameSpan, row_at}
-use Rattle.pm_elim.specs.Evidence.{IsBasisOf}
+use Rattle.pm_vector.specs.Evidence.{IsBasisOf}
 use Rattle.std.proofs.Common.{ap, arith, inl, inr, subst, sym, ◌∙◌}
 use Rattle.std.proofs.lemmas.Bool.{cases_lt}
 use Rattle.std.proofs.lemmas.List.{get_or_append_left, get_or_push, length_push}

@@ -1,12 +1,13 @@
 -- Evidence is a step of the elimination of the list that it names.
 use Rattle.pm_vector.specs.Rows.{Row}
 use Rattle.pm_elim.proofs.BasisLaws.{basis_unique}
-use Rattle.pm_elim.specs.Evidence.{IfWide, IsBasisOf, IsEvidence, IsExtendedListOf, IsWideStep, Lists, NoEvidence}
+use Rattle.pm_elim.specs.Refusals.{IfWide}
+use Rattle.pm_vector.specs.Evidence.{IsBasisOf, IsEvidence, IsExtendedListOf, IsWideStep, Lists, NoEvidence}
 use Rattle.pm_elim.specs.ExtendedLists.{IsWideOnExtended}
-use Rattle.pm_elim.specs.EliminationSteps.{EliminationStep}
+use Rattle.pm_vector.specs.EliminationSteps.{EliminationStep}
 use Rattle.pm_elim.specs.declared.evidence.ElimFail.{ElimFail}
 use Rattle.pm_elim.specs.declared.evidence.ElimFail.TheVariants.{Memory, Wide}
-use Rattle.pm_elim.specs.declared.evidence.ElimList.TheVariants.{Extended, ExtendedWithout, Rows, Without}
+use Rattle.pm_vector.specs.declared.evidence.ElimList.TheVariants.{Extended, ExtendedWithout, Rows, Without}
 use Rattle.std.proofs.Common.{OnOk, refl, subst, sym}
 use Rattle.std.specs.Prelude.{Err, IfErr, List, Ok, Result, length, remove, ℕ, ◌+◌, ◌<◌, ◌≡◌}
 

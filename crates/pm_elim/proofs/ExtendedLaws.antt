@@ -8,8 +8,8 @@ use Rattle.pm_vector.specs.Rows.{HasCols, Row, dot, entry, times}
 use Rattle.pm_vector.proofs.Spans.{place_of}
 use Rattle.pm_vector.specs.Bases.{row_at}
 use Rattle.pm_elim.proofs.BasisLaws.{row_length}
-use Rattle.pm_elim.proofs.DotLaws.{dot-unit, dot_same_within, entry-column, entry-combination}
-use Rattle.pm_elim.specs.Evidence.{IsExtended, column_of, unit}
+use Rattle.pm_vector.proofs.DotLaws.{dot-unit, dot_same_within, entry-column, entry-combination}
+use Rattle.pm_vector.specs.Evidence.{IsExtended, column_of, unit}
 use Rattle.std.proofs.Common.{ap, append_assoc, arith, inl, inr, refl, replicate, subst, sym, ◌∙◌}
 use Rattle.std.proofs.lemmas.Bool.{cases_eq, cases_lt}
 use Rattle.std.proofs.lemmas.Int.{ints}

@@ -1,15 +1,14 @@
 -- Two numbers divided by their greatest common divisor.
 use Rattle.pm_vector.proofs.DivisorLaws.{quotient_is}
 use Rattle.pm_vector.specs.Numbers.{InRange}
-use Rattle.pm_elim.specs.Steps.{IsFactors}
-use Rattle.std.proofs.Common.{arith, ◌<◌, ◌^◌}
+use Rattle.pm_vector.specs.Steps.{IsFactors}
+use Rattle.std.proofs.Common.{arith, ◌<◌, ◌^◌, ◌∙◌}
 use Rattle.std.proofs.lemmas.Int.{ints}
 use Rattle.std.proofs.lemmas.Nat.Gcd.{dvd-zero, dvd_antisymm, le_of_dvd}
 use Rattle.std.specs.Int.{IsGcd}
 use Rattle.std.specs.Prelude.{int_div, unsigned_abs, suc, zero, ℕ, ◌≤◌}
 use lib.IntN.{*ℤ_comm, pos, ℤ}
 use lib.Signed.{◌<ℤ◌}
-use Rattle.std.proofs.Common.{◌∙◌}
 
 module _ (x y : ℤ) (g : ℕ) (h : IsGcd (unsigned_abs x) (unsigned_abs y) g) (up : pos 0 <ℤ y) where
   abs_positive : 0 < unsigned_abs y

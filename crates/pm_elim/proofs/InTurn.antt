@@ -3,7 +3,7 @@ use Rattle.pm_vector.specs.Rows.{Row, entry}
 use Rattle.pm_vector.proofs.Columns.{row_cols}
 use Rattle.pm_vector.specs.Bases.{IsReducedBasis, column, row_at}
 use Rattle.pm_elim.proofs.ReductionLaws.{reduced_more, reduced_unique}
-use Rattle.pm_elim.specs.Steps.{IsReducedOnce, ReducedBy, StepStays}
+use Rattle.pm_vector.specs.Steps.{IsReducedOnce, ReducedBy, StepStays}
 use Rattle.std.proofs.Common.{add-one, arith, inl, inr, refl, ◌∙◌}
 use Rattle.std.proofs.lemmas.Bool.{cases_eq, cases_lt}
 use Rattle.std.proofs.lemmas.Int.{ints}

@@ -13,8 +13,8 @@ use Rattle.pm_vector.proofs.Spans.{at_place, place_of, same_span, span_differenc
 use Rattle.pm_vector.specs.Bases.{IsEchelonBasis, SameSpan, column, row_at}
 use Rattle.pm_elim.proofs.ReductionLaws.{once_keeps_zero, once_length, once_zero}
 use Rattle.pm_elim.proofs.StepLaws.{p_positive as factor_positive, step_entry, step_multiple}
-use Rattle.pm_elim.specs.Rounds.{AllReducedOnce, IsNewRow}
-use Rattle.pm_elim.specs.Steps.{IsReducedOnce, IsStep}
+use Rattle.pm_vector.specs.Rounds.{AllReducedOnce, IsNewRow}
+use Rattle.pm_vector.specs.Steps.{IsReducedOnce, IsStep}
 use Rattle.std.proofs.Common.{ap, arith, inl, inr, insert, subst, sym, ◌∙◌}
 use Rattle.std.proofs.lemmas.Bool.{cases_lt}
 use Rattle.std.proofs.lemmas.Int.{ints}

@@ -1,5 +1,4 @@
 pub mod Options
-pub mod Independent
 pub mod FactorLaws
 pub mod StepLaws
 pub mod ReductionLaws
@@ -11,7 +10,6 @@ pub mod RoundLaws
 pub mod BasisLaws
 pub mod EvidenceLaws
 pub mod PrefixLaws
-pub mod DotLaws
 pub mod ExtendedLaws
 pub mod TailLaws
 pub mod SoFar

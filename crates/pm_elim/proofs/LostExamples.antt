@@ -15,10 +15,10 @@ use Rattle.pm_elim.proofs.LostLaws.{step_lost}
 use Rattle.pm_elim.proofs.PivotLaws.{pivot_column_unique, pivot_row_unique}
 use Rattle.pm_elim.proofs.ReductionLaws.{reduced_unique}
 use Rattle.pm_elim.proofs.SoFar.{basis_none}
-use Rattle.pm_elim.specs.Evidence.{IsBasisOf, IsExtended, column_of, unit}
+use Rattle.pm_vector.specs.Evidence.{IsBasisOf, IsExtended, column_of, unit}
 use Rattle.pm_elim.specs.Lost.{HasNoWideDuals, IsLost, IsLostOnExtended, IsLostOnNext, IsLostOnOlder, IsLostOnSome, IsLostRound, IsLostWithoutOne, PrimitiveIsLost, StepIsLost}
 use Rattle.pm_elim.specs.LostExamples.{LostEliminationsAreRead, LostStepsAreRead, even_next, even_row, last_unit, late_row, odd_next, odd_row, one_entry, triple, two_rows}
-use Rattle.pm_elim.specs.Steps.{IsFactors, IsPivotRow, IsReducedOnce, ReducedBy}
+use Rattle.pm_vector.specs.Steps.{IsFactors, IsPivotRow, IsReducedOnce, ReducedBy}
 use Rattle.std.proofs.Common.{arith, inl, inr, refl, subst, sym, ◌∙◌}
 use Rattle.std.proofs.lemmas.Int.{ints}
 use Rattle.std.proofs.lemmas.Nat.Gcd.{dvd_trans}

@@ -2,9 +2,9 @@
 use Rattle.pm_vector.specs.Rows.{Row, difference, entry}
 use Rattle.pm_vector.specs.Bases.{column, row_at}
 use Rattle.pm_elim.proofs.StepLaws.{factors_unique}
-use Rattle.pm_elim.specs.Evidence.{IsBasisOf, IsExtended}
+use Rattle.pm_vector.specs.Evidence.{IsBasisOf, IsExtended}
 use Rattle.pm_elim.specs.Lost.{IfLost, IsLost, IsLostOnExtended, IsLostOnNext, IsLostOnSome, IsLostRound, IsLostWithoutOne, PrimitiveIsLost, StepIsLost}
-use Rattle.pm_elim.specs.Steps.{IsFactors, IsPivotRow, ReducedBy}
+use Rattle.pm_vector.specs.Steps.{IsFactors, IsPivotRow, ReducedBy}
 use Rattle.pm_elim.specs.declared.wide_rounds.WideFail.{WideFail}
 use Rattle.pm_elim.specs.declared.wide_rounds.WideFail.TheVariants.{Lost, Memory}
 use Rattle.std.proofs.Common.{inl, inr}

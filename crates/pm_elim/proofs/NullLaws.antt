@@ -9,11 +9,11 @@ use Rattle.pm_vector.specs.Rows.{HasCols, Row, dot, entry}
 use Rattle.pm_vector.proofs.Columns.{coefficient, combination_at}
 use Rattle.pm_vector.proofs.Spans.{at_place, place_of, same_span_sym, span_at, span_from, span_to}
 use Rattle.pm_vector.specs.Bases.{SameSpan, column, row_at}
-use Rattle.pm_elim.proofs.DotLaws.{dot_span_zero, null_of_span}
+use Rattle.pm_vector.proofs.DotLaws.{dot_span_zero, null_of_span}
 use Rattle.pm_elim.proofs.ExtendedLaws.{products_of_span, span_of_products}
 use Rattle.pm_elim.proofs.TailLaws.{combination_drop, combination_tails, drop-padded, late, padded, padded_first, padded_last, padded_length, tail_basis, tail_row}
-use Rattle.pm_elim.specs.Evidence.{IsBasisOf, IsExtended}
-use Rattle.pm_elim.specs.NullSpaces.{IsNull, IsNullBasis}
+use Rattle.pm_vector.specs.Evidence.{IsBasisOf, IsExtended}
+use Rattle.pm_vector.specs.NullSpaces.{IsNull, IsNullBasis}
 use Rattle.pm_elim.specs.ExtendedLists.{AreTails, IsExtendedBasis, tail_columns, tails}
 use Rattle.std.proofs.Common.{ap, arith, subst, sym, ◌∙◌}
 use Rattle.std.proofs.lemmas.Int.{ints}

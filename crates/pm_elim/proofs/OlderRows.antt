@@ -1,8 +1,8 @@
 -- The first rows of a basis, reduced by a new row.
 use Rattle.pm_vector.specs.Rows.{Row}
 use Rattle.pm_vector.specs.Bases.{row_at}
-use Rattle.pm_elim.specs.Rounds.{AllReducedOnce}
-use Rattle.pm_elim.specs.Steps.{IsReducedOnce, StepStays}
+use Rattle.pm_vector.specs.Rounds.{AllReducedOnce}
+use Rattle.pm_vector.specs.Steps.{IsReducedOnce, StepStays}
 use Rattle.std.proofs.Common.{arith, below_more, get_or, refl, set, ◌≢◌, ◌∙◌}
 use Rattle.std.proofs.lemmas.List.{get_or-set_other, get_or-set_same, get_or_default}
 use Rattle.std.specs.Prelude.{List, [], length, ℕ, ◌+◌, ◌<◌, ◌≡◌, ◌≤◌}

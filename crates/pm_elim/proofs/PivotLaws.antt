@@ -6,7 +6,7 @@ use Rattle.pm_vector.proofs.Signs.{mul_cancel, mul_pos, pos_cancel}
 use Rattle.pm_vector.specs.Divisors.{IsPrimitive, IsPrimitiveOf}
 use Rattle.pm_vector.specs.Rows.{Row, Same, entry, opposite, times}
 use Rattle.pm_elim.proofs.StepLaws.{Multiple, primitive_multiple}
-use Rattle.pm_elim.specs.Steps.{IsPivotRow}
+use Rattle.pm_vector.specs.Steps.{IsPivotRow}
 use Rattle.std.proofs.Common.{Bool, IsTrue, T, arith, false, inl, inr, refl, subst, sym, true, ◌∙◌}
 use Rattle.std.proofs.lemmas.Bool.{cases_lt}
 use Rattle.std.proofs.lemmas.Int.{ints}

@@ -8,13 +8,13 @@ use Rattle.pm_elim.proofs.BasisLaws.{basis_unique}
 use Rattle.pm_elim.proofs.EvidenceLaws.{evidence_on_rows, step_on_rows}
 use Rattle.pm_elim.proofs.InTurn.{pivot_below}
 use Rattle.pm_elim.proofs.ReductionLaws.{reduced_same, reduced_same_first, reduced_unique}
-use Rattle.pm_elim.specs.Evidence.{IfWide, IsEvidence, IsWideOnNext, IsWideOnOlder, IsWideStep}
-use Rattle.pm_elim.specs.Refusals.{IfWideStep, IsReductionFail, TellsOf}
-use Rattle.pm_elim.specs.Steps.{IsPivotRow, ReductionStays}
-use Rattle.pm_elim.specs.EliminationSteps.{EliminationStep}
+use Rattle.pm_elim.specs.Refusals.{IfWide, IfWideStep, IsReductionFail, TellsOf}
+use Rattle.pm_vector.specs.Evidence.{IsEvidence, IsWideOnNext, IsWideOnOlder, IsWideStep}
+use Rattle.pm_vector.specs.Steps.{IsPivotRow, ReductionStays}
+use Rattle.pm_vector.specs.EliminationSteps.{EliminationStep}
 use Rattle.pm_elim.specs.declared.evidence.ElimFail.{ElimFail}
 use Rattle.pm_elim.specs.declared.evidence.ElimFail.TheVariants.{Memory, Wide}
-use Rattle.pm_elim.specs.declared.evidence.ElimList.TheVariants.{Rows}
+use Rattle.pm_vector.specs.declared.evidence.ElimList.TheVariants.{Rows}
 use Rattle.pm_elim.specs.declared.refusal.Refusal.{Refusal}
 use Rattle.pm_elim.specs.declared.refusal.Refusal.TheVariants.{Memory as StepMemory, Wide as StepWide}
 use Rattle.pm_elim.specs.declared.refusal.WideStep.{WideStep}

@@ -9,7 +9,7 @@ use Rattle.pm_vector.specs.Rows.{HasCols, Row, entry}
 use Rattle.pm_vector.proofs.Spans.{span_times}
 use Rattle.pm_vector.specs.Bases.{column, row_at}
 use Rattle.pm_elim.proofs.StepLaws.{p_positive as factor_positive, reduced_once_unique, step_entry, step_keeps_zero, step_length, step_multiple, step_zero}
-use Rattle.pm_elim.specs.Steps.{IsReducedOnce, IsStep, ReducedBy, SameDirectionModulo}
+use Rattle.pm_vector.specs.Steps.{IsReducedOnce, IsStep, ReducedBy, SameDirectionModulo}
 use Rattle.std.proofs.Common.{arith, inl, inr, refl, subst, sym, ◌∙◌}
 use Rattle.std.proofs.lemmas.Int.{ints}
 use Rattle.std.specs.Prelude.{List, [], length, suc, take, zero, ℕ, ◌<◌, ◌∷◌, ◌≡◌}

@@ -9,10 +9,10 @@ use Rattle.pm_vector.proofs.Spans.{same_span_appended, same_span_extended, same_
 use Rattle.pm_vector.specs.Bases.{IsEchelonBasis, SameSpan, column}
 use Rattle.pm_elim.proofs.PivotLaws.{Proportional, pivot_column_unique, pivot_keeps_zero, pivot_length, pivot_primitive, pivot_proportional, pivot_row_unique}
 use Rattle.pm_elim.proofs.ReductionLaws.{reduced_length, reduced_modulo, reduced_unique, reduced_zero}
-use Rattle.pm_elim.specs.Evidence.{IsWideOnNext, IsWideRound}
+use Rattle.pm_vector.specs.Evidence.{IsWideOnNext, IsWideRound}
 use Rattle.pm_elim.specs.Refusals.{IfWideStep}
-use Rattle.pm_elim.specs.Rounds.{AllStay, IsNewRow, IsWideOnSome}
-use Rattle.pm_elim.specs.Steps.{IsPivotRow, ReducedBy, ReductionStays, SameDirectionModulo}
+use Rattle.pm_vector.specs.Rounds.{AllStay, IsNewRow, IsWideOnSome}
+use Rattle.pm_vector.specs.Steps.{IsPivotRow, ReducedBy, ReductionStays, SameDirectionModulo}
 use Rattle.pm_elim.specs.declared.refusal.Refusal.{Refusal}
 use Rattle.pm_elim.specs.declared.refusal.Refusal.TheVariants.{Memory, Wide}
 use Rattle.std.proofs.Common.{arith, inl, inr, refl, ◌∙◌}

@@ -5,9 +5,9 @@ use Rattle.pm_vector.specs.Bases.{IsEchelonBasis, SameSpan, column, row_at}
 use Rattle.pm_elim.proofs.BasisLaws.{empty_basis}
 use Rattle.pm_elim.proofs.ReductionLaws.{reduced_more}
 use Rattle.pm_elim.proofs.RoundLaws.{span_with_row}
-use Rattle.pm_elim.specs.Evidence.{IsBasisOf}
-use Rattle.pm_elim.specs.Rounds.{AllReducedOnce}
-use Rattle.pm_elim.specs.Steps.{IsReducedOnce, ReducedBy}
+use Rattle.pm_vector.specs.Evidence.{IsBasisOf}
+use Rattle.pm_vector.specs.Rounds.{AllReducedOnce}
+use Rattle.pm_vector.specs.Steps.{IsReducedOnce, ReducedBy}
 use Rattle.std.proofs.Common.{add-one, ap, arith, below_more, refl, ◌∙◌}
 use Rattle.std.proofs.Math.Seq.{take-length}
 use Rattle.std.proofs.lemmas.List.{get_or_append_left, get_or_push, length_push, take_all, take_more}

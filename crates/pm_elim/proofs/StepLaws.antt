@@ -5,7 +5,7 @@ use Rattle.pm_vector.proofs.RowLaws.{entry-difference, entry-times, length-diffe
 use Rattle.pm_vector.proofs.Signs.{mul_cancel, pos_cancel}
 use Rattle.pm_vector.specs.Divisors.{IsPrimitiveOf}
 use Rattle.pm_vector.specs.Rows.{Row, Same, difference, entry, times}
-use Rattle.pm_elim.specs.Steps.{IsFactors, IsReducedOnce, IsStep, StepStays}
+use Rattle.pm_vector.specs.Steps.{IsFactors, IsReducedOnce, IsStep, StepStays}
 use Rattle.pm_vector.specs.Differences.{DifferenceStays}
 use Rattle.std.proofs.Common.{ap, arith, inl, inr, refl, sym, ◌∙◌}
 use Rattle.std.proofs.lemmas.Int.{ints}

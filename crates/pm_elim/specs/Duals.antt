@@ -2,10 +2,10 @@
 use Rattle.pm_vector.specs.Divisors.{IsPrimitive}
 use Rattle.pm_vector.specs.Rows.{Row, dot, entry}
 use Rattle.pm_vector.specs.Bases.{column, row_at}
-use Rattle.pm_elim.specs.NullSpaces.{IsNullBasis}
+use Rattle.pm_vector.specs.NullSpaces.{IsNullBasis}
 use Rattle.pm_elim.specs.declared.evidence.DualFail.{DualFail}
 use Rattle.pm_elim.specs.declared.evidence.DualFail.TheVariants.{Dependent, Memory, Wide}
-use Rattle.pm_elim.specs.EliminationSteps.{EliminationStep}
+use Rattle.pm_vector.specs.EliminationSteps.{EliminationStep}
 use Rattle.pm_elim.specs.declared.evidence.ElimFail.{ElimFail}
 use Rattle.pm_elim.specs.declared.evidence.ElimFail.TheVariants.{Memory as ElimMemory, Wide as ElimWide}
 use Rattle.std.specs.Prelude.{List, length, ℕ, ◌<◌, ◌≡◌}

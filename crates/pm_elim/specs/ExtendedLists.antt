@@ -1,8 +1,8 @@
 -- How a null space is found: in the echelon basis of the extended list of a basis B.
 use Rattle.pm_vector.specs.Rows.{Row}
 use Rattle.pm_vector.specs.Bases.{column}
-use Rattle.pm_elim.specs.Evidence.{IsBasisOf, IsExtended, IsWideStep}
-use Rattle.pm_elim.specs.EliminationSteps.{EliminationStep}
+use Rattle.pm_vector.specs.Evidence.{IsBasisOf, IsExtended, IsWideStep}
+use Rattle.pm_vector.specs.EliminationSteps.{EliminationStep}
 use Rattle.std.specs.Prelude.{List, drop, length, map, ℕ, ◌+◌, ◌-◌, ◌<◌, ◌≡◌, ◌≤◌}
 
 -- the rows of E from the place h on, without their first k entries

@@ -1,13 +1,7 @@
 pub mod Bases
-pub mod Steps
-pub mod EliminationSteps
-pub mod Rounds
-pub mod Evidence
-pub mod NullSpaces
 pub mod Duals
 pub mod Lost
 pub mod LostExamples
 pub mod Refusals
 pub mod ExtendedLists
 pub mod Totals
-pub mod Enlarging

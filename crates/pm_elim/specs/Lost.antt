@@ -4,8 +4,8 @@ use Rattle.pm_vector.specs.Cones.{IsIndependent}
 use Rattle.pm_vector.specs.Divisors.{IsPrimitiveOf}
 use Rattle.pm_vector.specs.Numbers.{InRange}
 use Rattle.pm_vector.specs.Rows.{Row}
-use Rattle.pm_elim.specs.Evidence.{IsBasisOf, IsExtended}
-use Rattle.pm_elim.specs.Steps.{IsPivotRow, IsReducedOnce, ReducedBy}
+use Rattle.pm_vector.specs.Evidence.{IsBasisOf, IsExtended}
+use Rattle.pm_vector.specs.Steps.{IsPivotRow, IsReducedOnce, ReducedBy}
 use Rattle.pm_elim.specs.declared.wide_rounds.WideFail.{WideFail}
 use Rattle.pm_elim.specs.declared.wide_rounds.WideFail.TheVariants.{Lost, Memory}
 use Rattle.std.specs.Prelude.{All, List, length, remove, take, ℕ, ◌+◌, ◌<◌, ◌⊎◌}

@@ -1,14 +1,19 @@
 -- What the refusal of a call tells of the round that was refused.
 use Rattle.pm_vector.specs.Rows.{Row}
-use Rattle.pm_elim.specs.EliminationSteps.{EliminationStep}
+use Rattle.pm_vector.specs.EliminationSteps.{EliminationStep}
 use Rattle.pm_elim.specs.declared.evidence.ElimFail.{ElimFail}
 use Rattle.pm_elim.specs.declared.evidence.ElimFail.TheVariants.{Memory, Wide}
-use Rattle.pm_elim.specs.declared.evidence.ElimList.{ElimList}
-use Rattle.pm_elim.specs.declared.evidence.ElimList.TheVariants.{Rows}
+use Rattle.pm_vector.specs.declared.evidence.ElimList.{ElimList}
+use Rattle.pm_vector.specs.declared.evidence.ElimList.TheVariants.{Rows}
 use Rattle.pm_elim.specs.declared.refusal.Refusal.{Refusal}
 use Rattle.pm_elim.specs.declared.refusal.Refusal.TheVariants.{Memory as StepMemory, Wide as StepWide}
 use Rattle.pm_elim.specs.declared.refusal.WideStep.{WideStep}
 use Rattle.std.specs.Prelude.{List, length, ℕ, ◌≡◌}
+
+-- Q holds of the evidence of a refusal, where it has some
+abbrev pub IfWide : ElimFail → (EliminationStep → Type 0) → Type 0
+IfWide (Wide e) Q = Q e
+IfWide Memory Q = Unit {0}
 
 -- Q holds of the step of the refusal of a round, where it has one
 abbrev pub IfWideStep : Refusal → (WideStep → Type 0) → Type 0

@@ -4,19 +4,19 @@ ghost use Rattle.pm_vector.specs.Cones.{IsIndependent};
 ghost use Rattle.pm_vector.specs.Rows.{HasCols, dot, opposite};
 ghost use Rattle.pm_vector.specs.Bases.{column};
 ghost use Rattle.pm_elim.specs.Duals.{DualBasisIsUnique, IfDependent, IfDualWide, IsDualBasis, IsDualRow};
-ghost use Rattle.pm_elim.specs.Evidence.{IfWide, IsEvidence};
-ghost use Rattle.pm_elim.specs.NullSpaces.{IsNullBasis};
+ghost use Rattle.pm_elim.specs.Refusals.{IfWide};
+ghost use Rattle.pm_vector.specs.Evidence.{IsEvidence};
+ghost use Rattle.pm_vector.specs.NullSpaces.{IsNullBasis};
 ghost use Rattle.std.specs.Prelude.{Contains, IfErr, IfNone, IfOk, IfSome, OnOk, length, pos, remove, ◌+◌, ◌<ℤ◌, ◌<◌, ◌^◌, ◌≡◌, ◌≤◌, ◌⊎◌, ℕ};
 
 use crate::basis::Growing;
 use crate::elimination::{basis_of, basis_of_rows};
-use crate::evidence::{DualFail, ElimFail, ElimList};
+use crate::evidence::{DualFail, ElimFail};
 use crate::nulls::null_of;
-use crate::rows::copies;
 use crate::sign::is_negative_product;
 use crate::wide_duals::duals_at_once;
 use crate::wide_rounds::WideFail;
-use pm_vector::{Ints, negate};
+use pm_vector::{ElimList, Ints, copies, negate};
 use std::alloc::{AllocError, Global};
 
 /// Copies of all rows but the one at a place.

@@ -5,17 +5,18 @@ ghost use Rattle.pm_vector.specs.Cones.{IsIndependent};
 ghost use Rattle.pm_vector.specs.Rows.{HasCols, entry};
 ghost use Rattle.pm_vector.specs.Bases.{IsRank, column};
 ghost use Rattle.pm_elim.specs.Duals.{IfDependent, IfDualWide, IsDualBasis};
-ghost use Rattle.pm_elim.specs.Enlarging.{MarkEnlarging};
-ghost use Rattle.pm_elim.specs.Evidence.{IfWide, IsBasisOf, IsEvidence, NoEvidence};
+ghost use Rattle.pm_vector.specs.Enlarging.{MarkEnlarging};
+ghost use Rattle.pm_elim.specs.Refusals.{IfWide};
+ghost use Rattle.pm_vector.specs.Evidence.{IsBasisOf, IsEvidence, NoEvidence};
 ghost use Rattle.pm_elim.specs.Lost.{HasNoWideDuals, IsLost, IsLostOnExtended, IsLostOnNext};
-ghost use Rattle.pm_elim.specs.NullSpaces.{IsNullBasis};
-ghost use Rattle.pm_elim.specs.Steps.{ReducedBy, SameDirectionModulo};
+ghost use Rattle.pm_vector.specs.NullSpaces.{IsNullBasis};
+ghost use Rattle.pm_vector.specs.Steps.{ReducedBy, SameDirectionModulo};
 ghost use Rattle.std.specs.Prelude.{IfErr, IfOk, List, OnOk, [], false, length, pos, ◌++◌, ◌<◌, ◌^◌, ◌∷◌, ◌≡◌, ◌⊎◌, true, ℕ};
 
 use crate::basis::Echelon;
 use crate::duals::dual_basis;
 use crate::elimination::{echelon, rank};
-use crate::evidence::{DualFail, ElimFail, ElimList};
+use crate::evidence::{DualFail, ElimFail};
 use crate::marks::enlarging;
 use crate::modulo::reduce;
 use crate::nulls::null_space;
@@ -23,7 +24,7 @@ use crate::wide_bases::{wide_echelon, wide_enlarging, wide_rank};
 use crate::wide_modulo::wide_reduced;
 use crate::wide_nulls::{wide_dual_basis, wide_null_space};
 use crate::wide_rounds::WideFail;
-use pm_vector::Ints;
+use pm_vector::{ElimList, Ints};
 use std::alloc::Global;
 
 /// The echelon basis of rows with `cols` entries each.

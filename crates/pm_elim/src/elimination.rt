@@ -2,16 +2,16 @@
 
 ghost use Rattle.pm_vector.specs.Rows.{HasCols};
 ghost use Rattle.pm_vector.specs.Bases.{IsRank};
-ghost use Rattle.pm_elim.specs.Evidence.{IfWide, IsBasisOf, IsEvidence, IsWideStep, NoEvidence};
-ghost use Rattle.pm_elim.specs.Refusals.{IfWideStep, IsFailOf};
-ghost use Rattle.pm_elim.specs.EliminationSteps.{EliminationStep};
+ghost use Rattle.pm_elim.specs.Refusals.{IfWide, IfWideStep, IsFailOf};
+ghost use Rattle.pm_vector.specs.Evidence.{IsBasisOf, IsEvidence, IsWideStep, NoEvidence};
+ghost use Rattle.pm_vector.specs.EliminationSteps.{EliminationStep};
 ghost use Rattle.std.specs.Prelude.{IfErr, IfOk, OnOk, length, vec_len, ◌<◌, ◌^◌, ◌≡◌, ◌≤◌};
 
 use crate::basis::{Echelon, Growing};
-use crate::evidence::{ElimEvidence, ElimFail, ElimList};
+use crate::evidence::ElimFail;
 use crate::refusal::Refusal;
 use crate::round::take_in;
-use pm_vector::Ints;
+use pm_vector::{ElimEvidence, ElimList, Ints};
 use std::alloc::Global;
 
 /// The refusal of an elimination whose round was refused.

@@ -2,7 +2,7 @@
 
 ghost use Rattle.pm_vector.specs.Numbers.{InRange};
 ghost use Rattle.pm_vector.specs.Rows.{HasCols};
-ghost use Rattle.pm_elim.specs.Evidence.{IsExtended, column_of, unit};
+ghost use Rattle.pm_vector.specs.Evidence.{IsExtended, column_of, unit};
 ghost use Rattle.std.specs.Prelude.{All, IfOk, OnOk, drop, length, ◌+◌, ◌++◌, ◌<◌, ◌≡◌, ◌≤◌};
 
 use pm_vector::Ints;

@@ -1,7 +1,7 @@
 // The factors that cancel two entries.
 
 ghost use Rattle.pm_vector.specs.Numbers.{InRange};
-ghost use Rattle.pm_elim.specs.Steps.{IsFactors};
+ghost use Rattle.pm_vector.specs.Steps.{IsFactors};
 ghost use Rattle.std.specs.Prelude.{pos, ◌<ℤ◌, ◌*ℤ◌, ◌≡◌};
 
 use pm_vector::gcd;

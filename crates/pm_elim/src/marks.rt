@@ -1,15 +1,16 @@
 // Which rows of a list enlarge the span of those before them.
 
 ghost use Rattle.pm_vector.specs.Rows.{HasCols};
-ghost use Rattle.pm_elim.specs.Enlarging.{MarkEnlarging};
-ghost use Rattle.pm_elim.specs.Evidence.{IfWide, IsEvidence, NoEvidence};
+ghost use Rattle.pm_vector.specs.Enlarging.{MarkEnlarging};
+ghost use Rattle.pm_elim.specs.Refusals.{IfWide};
+ghost use Rattle.pm_vector.specs.Evidence.{IsEvidence, NoEvidence};
 ghost use Rattle.std.specs.Prelude.{IfErr, IfOk, OnOk, length, ◌<◌, ◌^◌, ◌≡◌};
 
 use crate::basis::Growing;
 use crate::elimination::fail_of;
-use crate::evidence::{ElimFail, ElimList};
+use crate::evidence::ElimFail;
 use crate::round::take_in;
-use pm_vector::Ints;
+use pm_vector::{ElimList, Ints};
 use std::alloc::Global;
 
 /// Marks the rows, of `cols` entries each, that enlarge the span of those before them: one mark for each row, in

@@ -2,19 +2,18 @@
 
 ghost use Rattle.pm_vector.specs.Rows.{HasCols, entry};
 ghost use Rattle.pm_vector.specs.Bases.{IsEchelonBasis, column};
-ghost use Rattle.pm_elim.specs.Evidence.{IfWide, IsEvidence};
-ghost use Rattle.pm_elim.specs.Refusals.{IfWideStep, IsReductionFail};
-ghost use Rattle.pm_elim.specs.Steps.{ReducedBy, SameDirectionModulo};
-ghost use Rattle.pm_elim.specs.EliminationSteps.{EliminationStep};
+ghost use Rattle.pm_elim.specs.Refusals.{IfWide, IfWideStep, IsReductionFail};
+ghost use Rattle.pm_vector.specs.Evidence.{IsEvidence};
+ghost use Rattle.pm_vector.specs.Steps.{ReducedBy, SameDirectionModulo};
+ghost use Rattle.pm_vector.specs.EliminationSteps.{EliminationStep};
 ghost use Rattle.std.specs.Prelude.{IfErr, IfOk, OnErr, OnOk, [], length, pos, ◌++◌, ◌<◌, ◌^◌, ◌∷◌, ◌≡◌, ℕ};
 
 use crate::basis::Echelon;
 use crate::elimination::fail_of;
-use crate::evidence::{ElimFail, ElimList};
+use crate::evidence::ElimFail;
 use crate::reduction::reduced_copy;
 use crate::refusal::Refusal;
-use crate::rows::copies;
-use pm_vector::Ints;
+use pm_vector::{ElimList, Ints, copies};
 use std::alloc::{AllocError, Global};
 
 /// The refusal of a reduction.

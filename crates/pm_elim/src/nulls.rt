@@ -2,18 +2,19 @@
 
 ghost use Rattle.pm_vector.specs.Rows.{HasCols, Row};
 ghost use Rattle.pm_vector.specs.Bases.{IsEchelonBasis, IsRank};
-ghost use Rattle.pm_elim.specs.Evidence.{IfWide, IsEvidence, IsExtended, IsWideStep, NoEvidence};
-ghost use Rattle.pm_elim.specs.NullSpaces.{IsNullBasis};
+ghost use Rattle.pm_elim.specs.Refusals.{IfWide};
+ghost use Rattle.pm_vector.specs.Evidence.{IsEvidence, IsExtended, IsWideStep, NoEvidence};
+ghost use Rattle.pm_vector.specs.NullSpaces.{IsNullBasis};
 ghost use Rattle.pm_elim.specs.ExtendedLists.{AreTails, IsExtendedBasis, IsWideOnExtended};
-ghost use Rattle.pm_elim.specs.EliminationSteps.{EliminationStep};
+ghost use Rattle.pm_vector.specs.EliminationSteps.{EliminationStep};
 ghost use Rattle.std.specs.Prelude.{All, IfErr, IfOk, List, OnOk, drop, length, map, ◌+◌, ◌-◌, ◌<◌, ◌^◌, ◌≡◌, ◌≤◌, ◌⊎◌, ℕ};
 
 use crate::basis::Growing;
 use crate::elimination::{basis_of, basis_of_rows};
-use crate::evidence::{ElimFail, ElimList};
+use crate::evidence::ElimFail;
 use crate::extended::{extended, tail_of};
 use crate::round::place_of;
-use pm_vector::Ints;
+use pm_vector::{ElimList, Ints};
 use std::alloc::{AllocError, Global};
 
 /// The entries of each row from a column on.

@@ -2,8 +2,8 @@
 
 ghost use Rattle.pm_vector.specs.Rows.{HasCols, entry};
 ghost use Rattle.pm_vector.specs.Bases.{row_at};
-ghost use Rattle.pm_elim.specs.Rounds.{AllReducedOnce, AllStay};
-ghost use Rattle.pm_elim.specs.Steps.{StepIsWide};
+ghost use Rattle.pm_vector.specs.Rounds.{AllReducedOnce, AllStay};
+ghost use Rattle.pm_vector.specs.Steps.{StepIsWide};
 ghost use Rattle.std.specs.Prelude.{IfNone, IfSome, length, pos, vec_len, ◌<ℤ◌, ◌<◌, ◌≡◌};
 
 use crate::step::{reduce_once, wide_column};

@@ -1,7 +1,7 @@
 // The pivot of a row, and the row made primitive with a positive pivot.
 
 ghost use Rattle.pm_vector.specs.Rows.{IsZero, entry};
-ghost use Rattle.pm_elim.specs.Steps.{IsPivotRow};
+ghost use Rattle.pm_vector.specs.Steps.{IsPivotRow};
 ghost use Rattle.std.specs.Prelude.{IfNone, IfSome, IsTrue, length, pos, ◌<ℤ◌, ◌<◌, ◌≡◌, ◌↔◌, ℕ};
 
 use crate::step::is_zero_at;

@@ -1,9 +1,9 @@
 // The reduction of a row by the rows of a basis, in turn.
 
 ghost use Rattle.pm_vector.specs.Bases.{IsEchelonBasis};
-ghost use Rattle.pm_elim.specs.Evidence.{IsWideOnNext};
+ghost use Rattle.pm_vector.specs.Evidence.{IsWideOnNext};
 ghost use Rattle.pm_elim.specs.Refusals.{IfWideStep};
-ghost use Rattle.pm_elim.specs.Steps.{ReducedBy, ReductionStays};
+ghost use Rattle.pm_vector.specs.Steps.{ReducedBy, ReductionStays};
 ghost use Rattle.std.specs.Prelude.{IfErr, IfOk, OnOk, length, ◌<◌};
 
 use crate::refusal::{Refusal, WideStep};

@@ -3,10 +3,10 @@
 ghost use Rattle.pm_vector.specs.Cones.{InSpan};
 ghost use Rattle.pm_vector.specs.Rows.{HasCols, Row, entry};
 ghost use Rattle.pm_vector.specs.Bases.{IsEchelonBasis, SameSpan, column};
-ghost use Rattle.pm_elim.specs.Evidence.{IsWideOnNext, IsWideRound};
+ghost use Rattle.pm_vector.specs.Evidence.{IsWideOnNext, IsWideRound};
 ghost use Rattle.pm_elim.specs.Refusals.{IfWideStep};
-ghost use Rattle.pm_elim.specs.Rounds.{AllStay, IsNewRow, IsWideOnSome};
-ghost use Rattle.pm_elim.specs.Steps.{ReducedBy, ReductionStays};
+ghost use Rattle.pm_vector.specs.Rounds.{AllStay, IsNewRow, IsWideOnSome};
+ghost use Rattle.pm_vector.specs.Steps.{ReducedBy, ReductionStays};
 ghost use Rattle.std.specs.Prelude.{IfErr, IfOk, OnOk, [], length, pos, vec_len, ◌+◌, ◌++◌, ◌<ℤ◌, ◌<◌, ◌∷◌, ◌≡◌, ◌≤◌, ℕ};
 
 use crate::basis::Growing;

@@ -1,7 +1,7 @@
 // One elimination step.
 
 ghost use Rattle.pm_vector.specs.Rows.{entry};
-ghost use Rattle.pm_elim.specs.Steps.{IsFactors, IsReducedOnce, StepIsWide, StepStays};
+ghost use Rattle.pm_vector.specs.Steps.{IsFactors, IsReducedOnce, StepIsWide, StepStays};
 ghost use Rattle.std.specs.Prelude.{IfErr, IfNone, IfSome, IsTrue, OnErr, OnOk, length, pos, ◌<ℤ◌, ◌<◌, ◌≡◌, ◌↔◌};
 
 use crate::factors::{Factors, cancelling_factors};

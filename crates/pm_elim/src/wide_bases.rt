@@ -2,8 +2,8 @@
 
 ghost use Rattle.pm_vector.specs.Rows.{HasCols};
 ghost use Rattle.pm_vector.specs.Bases.{IsRank};
-ghost use Rattle.pm_elim.specs.Enlarging.{MarkEnlarging};
-ghost use Rattle.pm_elim.specs.Evidence.{IsBasisOf};
+ghost use Rattle.pm_vector.specs.Enlarging.{MarkEnlarging};
+ghost use Rattle.pm_vector.specs.Evidence.{IsBasisOf};
 ghost use Rattle.pm_elim.specs.Lost.{IfLost, IsLost};
 ghost use Rattle.std.specs.Prelude.{IfErr, IfOk};
 

@@ -3,7 +3,7 @@
 ghost use Rattle.pm_vector.specs.Rows.{HasCols, entry};
 ghost use Rattle.pm_vector.specs.Bases.{column};
 ghost use Rattle.pm_elim.specs.Lost.{IfLost, IsLostOnNext};
-ghost use Rattle.pm_elim.specs.Steps.{ReducedBy, SameDirectionModulo};
+ghost use Rattle.pm_vector.specs.Steps.{ReducedBy, SameDirectionModulo};
 ghost use Rattle.std.specs.Prelude.{IfErr, IfOk, length, pos, ◌<◌, ◌≡◌, ℕ};
 
 use crate::basis::Echelon;

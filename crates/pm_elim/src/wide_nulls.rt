@@ -5,7 +5,7 @@ ghost use Rattle.pm_vector.specs.Cones.{IsIndependent};
 ghost use Rattle.pm_vector.specs.Rows.{HasCols};
 ghost use Rattle.pm_elim.specs.Duals.{IsDualBasis, IsDualRow};
 ghost use Rattle.pm_elim.specs.Lost.{HasNoWideDuals, IfLost, IsLostOnExtended, IsLostWithoutOne};
-ghost use Rattle.pm_elim.specs.NullSpaces.{IsNullBasis};
+ghost use Rattle.pm_vector.specs.NullSpaces.{IsNullBasis};
 ghost use Rattle.std.specs.Prelude.{IfErr, IfOk, List, length, ◌+◌, ◌<◌, ◌^◌, ◌≤◌, ◌⊎◌, ℕ};
 
 use crate::basis::Growing;

@@ -5,8 +5,8 @@ ghost use Rattle.pm_vector.specs.Divisors.{IsPrimitiveOf};
 ghost use Rattle.pm_vector.specs.Rows.{HasCols, difference, entry};
 ghost use Rattle.pm_vector.specs.Bases.{IsEchelonBasis, SameSpan};
 ghost use Rattle.pm_elim.specs.Lost.{IfLost, IsLostOnNext, IsLostOnSome, IsLostRound, PrimitiveIsLost, StepIsLost};
-ghost use Rattle.pm_elim.specs.Rounds.{AllReducedOnce, IsNewRow};
-ghost use Rattle.pm_elim.specs.Steps.{IsReducedOnce, ReducedBy};
+ghost use Rattle.pm_vector.specs.Rounds.{AllReducedOnce, IsNewRow};
+ghost use Rattle.pm_vector.specs.Steps.{IsReducedOnce, ReducedBy};
 ghost use Rattle.pm_elim.specs.declared.wide_rounds.WideFail.TheVariants.{Memory};
 ghost use Rattle.std.specs.Prelude.{IfErr, IfOk, [], length, pos, vec_len, ◌+◌, ◌++◌, ◌<ℤ◌, ◌<◌, ◌∷◌, ◌≡◌, ◌≤◌};
 

@@ -6,7 +6,7 @@ use Rattle.pm_vector.proofs.RowLaws.{dot-zeros, length-zeros, row_equal, times-d
 use Rattle.pm_vector.proofs.Signs.{mul_cancel, mul_le, mul_pos, weaken}
 use Rattle.pm_vector.specs.Cones.{InCone}
 use Rattle.pm_vector.specs.Divisors.{IsPrimitive}
-use Rattle.pm_vector.specs.Numbers.{Ratio}
+use Rattle.pm_vector.specs.Numbers.{IsReduced, Ratio}
 use Rattle.pm_vector.specs.Rows.{Row, dot, entry, plus, ratio_at, times}
 use Rattle.pm_vector.proofs.BasisExamples.{primitive_by_one}
 use Rattle.pm_fraction.proofs.Quotients.{whole_reduced}
@@ -26,8 +26,7 @@ use Rattle.pm_types.specs.Right.{AreDualRows, AreFacetDirections, IsBoundBy, Sta
 use Rattle.pm_types.specs.Values.{Extended, finite, minus_infinity, plus_infinity}
 use Rattle.pm_types.specs.Views.{over_one, ratios}
 use Rattle.std.proofs.Common.{ap, arith, refl, subst, sym, ◌∙◌}
-use Rattle.pm_vector.specs.Numbers.{IsReduced}
-use Rattle.pm_matrix.specs.Matrices.{IsFraction}
+use Rattle.pm_fraction.specs.Matrices.{IsFraction}
 use Rattle.std.proofs.lemmas.Int.{ints}
 use Rattle.std.proofs.lemmas.List.Elements.{All-nil}
 use Rattle.std.proofs.lemmas.Nat.Gcd.{dvd_refl, le_of_dvd}

@@ -10,7 +10,7 @@ use Rattle.pm_examples_objects.specs.Filing.{program}
 use Rattle.pm_filing.specs.Whole.{AreMarks}
 use Rattle.pm_examples_objects.specs.Whole.{FilesAreWhole, ObjectsAreAgain, three, two_names}
 use Rattle.pm_filing.specs.Views.{Suits}
-use Rattle.pm_matrix.specs.Matrices.{IsFraction}
+use Rattle.pm_fraction.specs.Matrices.{IsFraction}
 use Rattle.pm_props.proofs.Members.{has-empty}
 use Rattle.pm_props.specs.Sets.{has, only, union}
 use Rattle.pm_object_type.specs.declared.object_type.ObjectType.TheVariants.{Cone, Polytope}

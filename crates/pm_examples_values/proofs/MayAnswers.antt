@@ -10,7 +10,7 @@ use Rattle.pm_examples_values.specs.RayExamples.{half_line_orders, line_orders}
 use Rattle.pm_examples_values.specs.RowExamples.{half_cone, whole_matrix}
 use Rattle.pm_geom.specs.Examples.{pair, triple}
 use Rattle.pm_geom.specs.Things.{Orders}
-use Rattle.pm_matrix.specs.Matrices.{IsFraction}
+use Rattle.pm_fraction.specs.Matrices.{IsFraction}
 use Rattle.pm_object.specs.Reading.{Put, answer_at}
 use Rattle.pm_object_type.specs.declared.object_type.ObjectType.TheVariants.{Cone}
 use Rattle.pm_props.proofs.Every.{has-set_of}

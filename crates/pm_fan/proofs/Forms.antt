@@ -8,7 +8,7 @@ use Rattle.pm_fan.proofs.Tails.{primitive_behind}
 use Rattle.pm_fan.specs.Conditions.{are_of_facets, are_of_vertices, face_reads, face_refusal, normal_reads, normal_refusal, rows_pass}
 use Rattle.pm_fan.specs.Fans.{cut, face_cones, face_fan_of, face_rays, fan_cols, has_members, holders_from, is_point, normal_cones, normal_fan_of, normal_rays, only_apex, with_members}
 use Rattle.pm_fan.specs.Laws.{FansHaveForms, HaveForms}
-use Rattle.pm_matrix.specs.Matrices.{IsFraction}
+use Rattle.pm_fraction.specs.Matrices.{IsFraction}
 use Rattle.pm_object.proofs.KnownValues.{IsHeldRow, known_columns, known_rows, known_sets, polytope_is}
 use Rattle.pm_object.specs.Formed.{IsFormed}
 use Rattle.pm_object.specs.Known.{IsReadable, cols_at, is_true, rows_at, sets_at}

@@ -2,9 +2,9 @@
 use Rattle.pm_vector.proofs.DivisorLaws.{common_divisor}
 use Rattle.pm_vector.specs.Numbers.{InRange, Ratio}
 use Rattle.pm_vector.specs.Rows.{ratio_at}
-use Rattle.pm_matrix.proofs.MultipleLaws.{IsLcm-from_gcd, gcd_positive}
-use Rattle.pm_matrix.specs.FractionRows.{IsLeastDenominator, numerator_over}
-use Rattle.pm_matrix.specs.Multiples.{IsLcm}
+use Rattle.pm_fraction.proofs.MultipleLaws.{IsLcm-from_gcd, gcd_positive}
+use Rattle.pm_fraction.specs.FractionRows.{IsLeastDenominator, numerator_over}
+use Rattle.pm_fraction.specs.Multiples.{IsLcm}
 use Rattle.pm_types.specs.Forms.{HasPrimitiveRow}
 use Rattle.std.proofs.Common.{arith, inl, inr}
 use Rattle.std.proofs.Math.Nat.{div-mul-le_self, dvd-mul_left, dvd-mul_right, mul-le-mul, mul-le-mul_left}

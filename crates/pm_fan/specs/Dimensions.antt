@@ -4,10 +4,10 @@ use Rattle.std.specs.Prelude.{ℕ, List, [], ◌∷◌, ◌++◌, ◌+◌, ◌<�
 use Rattle.std.specs.List.{All, Contains}
 use Rattle.pm_vector.specs.Rows.{Row}
 use Rattle.pm_vector.specs.Bases.{IsRank}
-use Rattle.pm_elim.specs.EliminationSteps.{EliminationStep}
-use Rattle.pm_elim.specs.Evidence.{IsEvidence, NoEvidence}
+use Rattle.pm_vector.specs.EliminationSteps.{EliminationStep}
+use Rattle.pm_vector.specs.Evidence.{IsEvidence, NoEvidence}
 use Rattle.pm_elim.specs.Lost.{IsLost}
-use Rattle.pm_elim.specs.declared.evidence.ElimList.TheVariants as list
+use Rattle.pm_vector.specs.declared.evidence.ElimList.TheVariants as list
 use Rattle.pm_geom.specs.Faces.{ray}
 use lib.IntN.{ℤ, pos, negsuc}
 

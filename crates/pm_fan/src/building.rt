@@ -13,7 +13,7 @@ use crate::conditions::{face_needs, normal_needs, rows_pass};
 use crate::cones::all_holders;
 use crate::rows::{cut_rows, cut_rows_with_members};
 use pm_files::FileObject;
-use pm_matrix::Matrix;
+use pm_fraction::Matrix;
 use pm_object::{BuildFail, Condition, Object, cols_at, matrix_at, sets_at};
 use pm_types::{ObjectType, PropId, PropSet, Sets, Value};
 use std::alloc::{AllocError, Global};

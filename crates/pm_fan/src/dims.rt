@@ -1,15 +1,15 @@
 // The dimensions of the cones of a fan.
 
 ghost use Rattle.pm_vector.specs.Rows.{HasCols};
-ghost use Rattle.pm_elim.specs.Evidence.{IfWide};
-ghost use Rattle.pm_elim.specs.declared.evidence.ElimList.TheVariants as list;
+ghost use Rattle.pm_elim.specs.Refusals.{IfWide};
+ghost use Rattle.pm_vector.specs.declared.evidence.ElimList.TheVariants as list;
 ghost use Rattle.pm_fan.specs.Dimensions.{AreDimensions, ArePlaces, IsConeEvidence, IsLostCone, NoConeEvidence, cone_rows};
 ghost use Rattle.std.specs.List.{All};
 ghost use Rattle.std.specs.Prelude.{IfErr, IfOk, OnOk, false, length, ◌<◌, ◌^◌, ◌≡◌, true};
 
-use pm_elim::{ElimFail, copies, rank_by};
+use pm_elim::{ElimFail, rank_by};
 use pm_types::Sets;
-use pm_vector::Ints;
+use pm_vector::{Ints, copies};
 use std::alloc::{AllocError, Global};
 
 /// The rows that span a cone: the lines, and then its rays.

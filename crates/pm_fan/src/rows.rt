@@ -4,8 +4,7 @@ ghost use Rattle.pm_fan.specs.Fans.{cut, has_members, with_members};
 ghost use Rattle.pm_types.specs.Parts.{cols_over};
 ghost use Rattle.std.specs.Prelude.{IfOk, OnOk, [], length, map, suc, ◌++◌, ◌<◌, ◌∷◌, ◌≡◌};
 
-use pm_fraction::Fraction;
-use pm_matrix::{Matrix, MatrixFail};
+use pm_fraction::{Fraction, Matrix, MatrixFail};
 use std::alloc::{AllocError, Global};
 
 /// Puts a row below the others.

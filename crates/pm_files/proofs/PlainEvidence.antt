@@ -1,7 +1,7 @@
 -- The JSON of evidence nests three levels at most, and has no float.
 use Rattle.std.proofs.Common.{refl, ◌≡◌, ◌≤◌, List, None, Option, Some, arith, false, ℕ}
-use Rattle.pm_elim.specs.declared.evidence.ElimList.{ElimList}
-use Rattle.pm_elim.specs.declared.evidence.ElimList.TheVariants.{Rows, Extended, Without, ExtendedWithout}
+use Rattle.pm_vector.specs.declared.evidence.ElimList.{ElimList}
+use Rattle.pm_vector.specs.declared.evidence.ElimList.TheVariants.{Rows, Extended, Without, ExtendedWithout}
 use Rattle.pm_files.proofs.Plain.{each_depth, each_whole, edges_depth, edges_whole, set_depth, set_whole}
 use Rattle.pm_files.specs.EvidenceJson.{column_json, entry_json, evidence_json, list_json, whole_row_json, whole_rows_json}
 use Rattle.pm_geom.specs.declared.evidence.Evidence.{Evidence}

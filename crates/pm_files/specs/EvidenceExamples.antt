@@ -1,8 +1,8 @@
 -- Evidence as JSON: what is written, and what is not.
 use Rattle.std.specs.Prelude.{None, Some, [], codes, ◌≡◌, ◌≢◌, ◌∷◌}
-use Rattle.pm_elim.specs.EliminationSteps.{EliminationStep}
-use Rattle.pm_elim.specs.declared.evidence.ElimList.{ElimList}
-use Rattle.pm_elim.specs.declared.evidence.ElimList.TheVariants.{Extended, ExtendedWithout, Rows, Without}
+use Rattle.pm_vector.specs.EliminationSteps.{EliminationStep}
+use Rattle.pm_vector.specs.declared.evidence.ElimList.{ElimList}
+use Rattle.pm_vector.specs.declared.evidence.ElimList.TheVariants.{Extended, ExtendedWithout, Rows, Without}
 use Rattle.pm_files.specs.EvidenceJson.{evidence_text}
 use Rattle.pm_geom.specs.declared.evidence.Evidence.TheVariants.{E1, E2, E3, E4, E5Cells, E5Faces, E5Rays, E5Rows}
 use Rattle.pm_vector.specs.Rows.{Row}

@@ -1,8 +1,8 @@
 -- Evidence as JSON: an object of plain keys, in the order of the alphabet. Whole numbers of rows are texts, as those
 -- of data files are; places, columns and counts are numbers, and count from 0.
 use Rattle.std.specs.Fmt.{signed_decimal}
-use Rattle.pm_elim.specs.declared.evidence.ElimList.{ElimList}
-use Rattle.pm_elim.specs.declared.evidence.ElimList.TheVariants.{Rows, Extended, Without, ExtendedWithout}
+use Rattle.pm_vector.specs.declared.evidence.ElimList.{ElimList}
+use Rattle.pm_vector.specs.declared.evidence.ElimList.TheVariants.{Rows, Extended, Without, ExtendedWithout}
 use Rattle.pm_files.specs.ValueJson.{array_of, edges_json, index_json, set_json}
 use Rattle.pm_geom.specs.declared.evidence.Evidence.{Evidence}
 use Rattle.pm_geom.specs.declared.evidence.Evidence.TheVariants.{E1, E2, E3, E4, E5Rays, E5Rows, E5Faces, E5Cells}

@@ -8,9 +8,8 @@ ghost use Rattle.serde_json.specs.View.{view};
 ghost use Rattle.std.specs.Prelude.{IfOk, Some, string_bytes, ◌≡◌};
 
 use crate::value::{edges_json, set_json};
-use pm_elim::{ElimEvidence, ElimList};
 use pm_geom::{Evidence, PlaceSets, Places, RowList};
-use pm_vector::Ints;
+use pm_vector::{ElimEvidence, ElimList, Ints};
 use serde_json::{Map, Value as Json, put};
 use std::alloc::{AllocError, Global};
 

@@ -1,6 +1,6 @@
 // What data files hold.
 
-use pm_matrix::Matrix;
+use pm_fraction::Matrix;
 use pm_props::{ObjectType, PropId, PropSet};
 use pm_types::Value;
 

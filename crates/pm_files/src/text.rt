@@ -10,8 +10,7 @@ ghost use Rattle.std.specs.Prelude.{IfOk, OnOk, Some, string_bytes, ◌++◌, �
 
 use crate::value::{is_one_row, value_json};
 use itoa::Buffer;
-use pm_fraction::Fraction;
-use pm_matrix::Matrix;
+use pm_fraction::{Fraction, Matrix};
 use pm_props::PropId;
 use pm_types::Value;
 use std::alloc::{AllocError, Global};

@@ -6,8 +6,7 @@ ghost use Rattle.pm_types.specs.Views.{extended_of, view_of};
 ghost use Rattle.serde_json.specs.View.{view};
 ghost use Rattle.std.specs.Prelude.{IfOk, map, ◌≡◌};
 
-use pm_fraction::Fraction;
-use pm_matrix::Matrix;
+use pm_fraction::{Fraction, Matrix};
 use pm_props::PropId;
 use pm_types::{Number, Sets, Value};
 use serde_json::{Value as Json, json};

@@ -11,7 +11,7 @@ ghost use Rattle.std.specs.Prelude.{IfOk, IsUtf8, List, OnOk, Some, [], map, opt
 
 use crate::file::{FileObject, FileProgram};
 use crate::value::{objective_json, value_json};
-use pm_matrix::Matrix;
+use pm_fraction::Matrix;
 use pm_props::{ObjectType, PropId, PropSet};
 use pm_types::Value;
 use serde_json::{Map, Value as Json, json, put};

@@ -20,7 +20,7 @@ use Rattle.pm_filing.specs.Filing.{loaded_value, name_told, objective_held, obje
 use Rattle.pm_filing.specs.ReadingViews.{has_formed_objective, is_formed_objective, matrix_seen}
 use Rattle.pm_filing.specs.Views.{AllSuit, Suits}
 use Rattle.pm_filing.specs.Whole.{IsWhole, is_place, objective_of}
-use Rattle.pm_matrix.specs.Matrices.{FractionMatrix}
+use Rattle.pm_fraction.specs.Matrices.{FractionMatrix}
 use Rattle.pm_object.proofs.Formed.{is_not, others_agree}
 use Rattle.pm_object.specs.Formed.{ArePrograms, are_different}
 use Rattle.pm_object.specs.State.{CanTake, HeldValue, State, agrees, cols_of, empty_object, has_rounds_at, holds_computed_at, is_computed, is_held, is_polytope, is_sealed_at, place_from, program_refusal, read_at, sites_agree, value_of, with_program}

@@ -9,7 +9,7 @@ use Rattle.serde_json.specs.View.{items_of as listed}
 use Rattle.pm_vector.specs.Numbers.{Ratio}
 use Rattle.pm_fraction.proofs.ReadsBack.{reads_text}
 use Rattle.pm_fraction.specs.Text.{text_of}
-use Rattle.pm_matrix.specs.Matrices.{IsFraction}
+use Rattle.pm_fraction.specs.Matrices.{IsFraction}
 use Rattle.pm_json.proofs.FractionTexts.{text_read}
 use Rattle.pm_json.proofs.GrammarReads.{read_of_text}
 use Rattle.pm_json.proofs.Parts.{err_ok}

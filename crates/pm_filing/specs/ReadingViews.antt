@@ -3,7 +3,7 @@ use Rattle.std.specs.Prelude.{ℕ, Bool, true, ⊤, List, [], ◌∷◌, String,
 use Rattle.std.specs.List.{list_all}
 use Rattle.pm_props.specs.declared.property.PropId.{PropId}
 use Rattle.pm_props.specs.declared.property.PropId.TheVariants.{LinearObjective}
-use Rattle.pm_matrix.specs.Matrices.{FractionMatrix}
+use Rattle.pm_fraction.specs.Matrices.{FractionMatrix}
 use Rattle.pm_types.specs.Forms.{AreFractions, is_formed}
 use Rattle.pm_types.specs.Values.{PropertyValue, matrix}
 use Rattle.pm_filing.specs.FileReadings.{Named}

@@ -16,7 +16,7 @@ use crate::ignored::ignored_in;
 use crate::parts::{FilePart, programs_in};
 use crate::profile::profile_in;
 use pm_files::{FileObject, FileProgram};
-use pm_matrix::Matrix;
+use pm_fraction::Matrix;
 use pm_props::{ObjectType, PropId, PropSet};
 use pm_types::Value;
 use serde_json::{Map, Value as Json};

@@ -22,7 +22,7 @@ ghost use Rattle.pm_limits.specs.Limits.{most_rules};
 use crate::fail::FileFail;
 use crate::read::read_object;
 use pm_files::{FileObject, FileProgram};
-use pm_matrix::Matrix;
+use pm_fraction::Matrix;
 use pm_object::{Excluded, Object, ProgramFail, TakeFail, Why};
 use pm_rules::{Book, Rule};
 use pm_types::{PropId, PropSet, RuleId, Value};

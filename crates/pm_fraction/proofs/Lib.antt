@@ -8,3 +8,9 @@ pub mod Compared
 pub mod Digits
 pub mod ReadsBack
 pub mod WideProducts
+pub mod Denominators
+pub mod MultipleLaws
+pub mod Numerators
+pub mod Options
+pub mod PrimitiveRows
+pub mod Tables

@@ -4,3 +4,7 @@ pub mod OrderLaws
 pub mod Arithmetic
 pub mod Divisors
 pub mod Text
+pub mod FractionRows
+pub mod Matrices
+pub mod Multiples
+pub mod Wideness

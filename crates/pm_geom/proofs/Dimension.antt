@@ -7,7 +7,7 @@ use Rattle.pm_vector.specs.Rows.{HasCols, IsZero, Row, dot, entry, opposite}
 use Rattle.pm_vector.proofs.Rank.{independent_are_few, rank_is_determined}
 use Rattle.pm_vector.proofs.Spans.{at_place, same_span, same_span_refl, span_at, span_from, span_of, span_to}
 use Rattle.pm_vector.specs.Bases.{IsRank, SameSpan, row_at}
-use Rattle.pm_elim.proofs.DotLaws.{dot_span_zero}
+use Rattle.pm_vector.proofs.DotLaws.{dot_span_zero}
 use Rattle.pm_geom.proofs.Facets.{dot-opposite}
 use Rattle.pm_geom.proofs.Independent.{decide_zero, in_units, independent_both, independent_more, self_zero, units, units_cols, units_independent, units_length}
 use Rattle.pm_geom.proofs.Polar.{bipolar, cols_at, membership_decided}

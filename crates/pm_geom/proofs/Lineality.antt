@@ -5,8 +5,8 @@ use Rattle.pm_vector.proofs.RowLaws.{dot_comm, length-opposite}
 use Rattle.pm_vector.specs.Cones.{InCone, InSpan}
 use Rattle.pm_vector.specs.Rows.{HasCols, Row, dot, opposite}
 use Rattle.pm_vector.proofs.Spans.{same_span_sym}
-use Rattle.pm_elim.proofs.DotLaws.{null_of_span}
-use Rattle.pm_elim.specs.NullSpaces.{IsNull}
+use Rattle.pm_vector.proofs.DotLaws.{null_of_span}
+use Rattle.pm_vector.specs.NullSpaces.{IsNull}
 use Rattle.pm_geom.proofs.Facets.{Duals, dot-opposite, duals, order_as, order_generates, vanishes_line}
 use Rattle.pm_geom.proofs.Polar.{bipolar, cols_at, cut_at, cut_from}
 use Rattle.pm_geom.specs.Cones.{CutOut, InLineality, IsExtreme, IsOrder, IsValid, Vanishes}

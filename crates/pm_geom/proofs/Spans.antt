@@ -6,8 +6,8 @@ use Rattle.pm_vector.proofs.RowLaws.{dot_comm, entry-difference, entry-plus, ent
 use Rattle.pm_vector.specs.Cones.{InCone, InSpan, combination}
 use Rattle.pm_vector.specs.Rows.{HasCols, Row, dot, entry, plus, times}
 use Rattle.pm_vector.proofs.Spans.{same_span, same_span_sym, span_difference}
-use Rattle.pm_elim.proofs.DotLaws.{null_of_span}
-use Rattle.pm_elim.specs.NullSpaces.{IsNull}
+use Rattle.pm_vector.proofs.DotLaws.{null_of_span}
+use Rattle.pm_vector.specs.NullSpaces.{IsNull}
 use Rattle.pm_geom.proofs.Facets.{order_generates}
 use Rattle.pm_geom.proofs.Polar.{cols_at}
 use Rattle.pm_geom.proofs.ValidRows.{null_in}

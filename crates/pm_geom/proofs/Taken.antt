@@ -1,5 +1,5 @@
 -- What holds of the first rows of a list, one by one; and tests that say no.
-use Rattle.pm_elim.specs.NullSpaces.{IsNull}
+use Rattle.pm_vector.specs.NullSpaces.{IsNull}
 use Rattle.pm_geom.specs.Cones.{CutOut}
 use Rattle.pm_vector.proofs.Lists.{all_append, all_at, among_Contains}
 use Rattle.pm_vector.proofs.RowLaws.{dot_comm}

@@ -4,7 +4,7 @@ use Rattle.std.specs.List.{All, Contains}
 use Rattle.pm_vector.specs.Rows.{Row, difference, dot, HasCols, IsZero, Same}
 use Rattle.pm_vector.specs.Cones.{InCone, InSpan, IsIndependent}
 use Rattle.pm_vector.specs.Bases.{IsRank, SameSpan}
-use Rattle.pm_elim.specs.NullSpaces.{IsNull}
+use Rattle.pm_vector.specs.NullSpaces.{IsNull}
 use Rattle.pm_geom.specs.Cones.{CutOut, IsValid, Vanishes, InLineality, IsOrder}
 use Rattle.pm_geom.specs.Faces.{IsFace, ray}
 use lib.IntN.{pos}

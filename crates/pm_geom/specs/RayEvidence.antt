@@ -3,10 +3,10 @@ use Rattle.std.specs.Prelude.{ℕ, ◌≡◌, ◌<◌, ◌⊎◌, Bool, true, Op
 use Rattle.std.specs.List.{All, AllPairs, Contains}
 use Rattle.pm_vector.specs.Rows.{Row, dot, entry}
 use Rattle.pm_vector.specs.Bases.{row_at}
-use Rattle.pm_elim.specs.EliminationSteps.{EliminationStep}
-use Rattle.pm_elim.specs.Enlarging.{MarkEnlarging}
-use Rattle.pm_elim.specs.Evidence.{IsEvidence}
-use Rattle.pm_elim.specs.Steps.{IsFactors}
+use Rattle.pm_vector.specs.EliminationSteps.{EliminationStep}
+use Rattle.pm_vector.specs.Enlarging.{MarkEnlarging}
+use Rattle.pm_vector.specs.Evidence.{IsEvidence}
+use Rattle.pm_vector.specs.Steps.{IsFactors}
 use Rattle.pm_geom.specs.Cones.{CutOut, IsExtreme, SameModulo}
 use Rattle.pm_geom.specs.Generators.{IsCanonicalRay}
 use Rattle.pm_geom.specs.StatedOrder.{IsStatedFront, rows_marked}

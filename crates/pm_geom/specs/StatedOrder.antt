@@ -4,7 +4,7 @@ use Rattle.std.specs.Prelude.{ℕ, ◌≡◌, ◌≤◌, Bool, true, false, cond
 use Rattle.std.specs.Bool.{beq}
 use Rattle.pm_vector.specs.Rows.{Row}
 use Rattle.pm_vector.specs.Bases.{IsRank}
-use Rattle.pm_elim.specs.Enlarging.{MarkEnlarging}
+use Rattle.pm_vector.specs.Enlarging.{MarkEnlarging}
 
 -- the rows of X whose mark is b, in list order
 abbrev pub rows_marked : Bool → List Bool → List Row → List Row

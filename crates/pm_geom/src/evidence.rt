@@ -4,8 +4,7 @@ ghost use Rattle.pm_geom.specs.Evidence.{evidence_number};
 ghost use Rattle.std.specs.Prelude.{IfOk, ◌≡◌};
 
 use crate::lists::{PlaceSets, Places, RowList};
-use pm_elim::ElimEvidence;
-use pm_vector::Ints;
+use pm_vector::{ElimEvidence, Ints};
 use std::alloc::{AllocError, Global};
 
 /// Why there is no answer, shown by values that anyone can check. What each kind shows of the rows that were handed in

@@ -2,8 +2,7 @@
 
 ghost use Rattle.std.specs.Prelude.{IfOk, map, ◌≡◌};
 
-use pm_elim::copies;
-use pm_vector::Ints;
+use pm_vector::{Ints, copies};
 use std::alloc::{AllocError, Global};
 use std::marker::Model;
 

@@ -1,6 +1,6 @@
 // Unit rows.
 
-ghost use Rattle.pm_elim.specs.Evidence.{unit};
+ghost use Rattle.pm_vector.specs.Evidence.{unit};
 ghost use Rattle.std.specs.Prelude.{IfOk, ◌<◌, ◌≡◌};
 
 use pm_vector::Ints;

@@ -4,7 +4,7 @@ use Rattle.pm_vector.specs.Numbers.{Ratio}
 use Rattle.pm_geom.specs.FaceCounts.{f2_entry, f2_of, inclusion_count, inner}
 use Rattle.pm_graph.proofs.PlaceCounts.{range_among}
 use Rattle.pm_graph.specs.Counts.{IsTriangle, f2_matrix, lower_count, lower_counts, mirrored, whole}
-use Rattle.pm_matrix.specs.Matrices.{FractionMatrix}
+use Rattle.pm_fraction.specs.Matrices.{FractionMatrix}
 use Rattle.std.proofs.Common.{ap, ap₂, arith, inl, inr, refl, sym, ◌∙◌}
 use Rattle.std.proofs.lemmas.Bool.{cases_lt}
 use Rattle.std.proofs.lemmas.Bool.Decides.{nat_tests}

@@ -4,7 +4,7 @@ use Rattle.pm_fraction.specs.Fractions.{ratio_of}
 use Rattle.pm_bits.specs.Sets.{has}
 use Rattle.pm_geom.specs.FaceCounts.{f2_of, inclusion_count, inner}
 use Rattle.pm_graph.specs.Slices.{ranks_of, rows_of}
-use Rattle.pm_matrix.specs.Matrices.{FractionMatrix}
+use Rattle.pm_fraction.specs.Matrices.{FractionMatrix}
 use Rattle.std.specs.Global.{Vec}
 use Rattle.std.specs.List.{All, count_by, list_all, range_with_len, slice_index_or, sum_by}
 use Rattle.std.specs.Prelude.{ℕ, ◌+◌, ◌<◌, ◌^◌, ◌≡◌, Bool, List, [], cond, length, map, nat_lt}

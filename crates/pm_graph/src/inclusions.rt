@@ -11,8 +11,7 @@ ghost use Rattle.std.specs.Prelude.{IfOk, OnOk, [], length, ◌++◌, ◌<◌, �
 use crate::bits::columns_of;
 use crate::counts::{full_row, inner_ranks, meet_columns};
 use pm_bits::BitRow;
-use pm_fraction::Fraction;
-use pm_matrix::{Matrix, MatrixFail};
+use pm_fraction::{Fraction, Matrix, MatrixFail};
 use pm_types::Lattice;
 use std::alloc::{AllocError, Global};
 

@@ -19,8 +19,8 @@ use Rattle.pm_vector.proofs.Spans.{place_of}
 use Rattle.pm_dd.specs.Fronts.{HalfSpaces}
 use Rattle.pm_dd.proofs.MixedLaws.{generators_as}
 use Rattle.pm_dd.proofs.ZeroRows.{dot_zero, no_basis, zero_of_span}
-use Rattle.pm_elim.specs.Evidence.{unit}
-use Rattle.pm_elim.proofs.DotLaws.{dot-unit}
+use Rattle.pm_vector.specs.Evidence.{unit}
+use Rattle.pm_vector.proofs.DotLaws.{dot-unit}
 use Rattle.pm_elim.proofs.ExtendedLaws.{length-unit, unit_one, unit_zero}
 use Rattle.pm_geom.specs.Cones.{InLineality, IsValid}
 use Rattle.pm_geom.specs.Generators.{AreGenerators}

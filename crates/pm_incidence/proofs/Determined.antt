@@ -15,11 +15,11 @@ use Rattle.pm_vector.proofs.Unique.{echelon_is_unique}
 use Rattle.pm_vector.specs.Bases.{IsReducedBasis, column, row_at}
 use Rattle.pm_dd.proofs.ZeroRows.{zero_of_span}
 use Rattle.pm_dd.specs.Fronts.{HalfSpaces}
-use Rattle.pm_elim.proofs.DotLaws.{dot-unit, dot_span_zero}
+use Rattle.pm_vector.proofs.DotLaws.{dot-unit, dot_span_zero}
 use Rattle.pm_elim.proofs.DualLaws.{pivot_contained}
 use Rattle.pm_elim.proofs.InTurn.{pivot_below}
-use Rattle.pm_elim.specs.Evidence.{unit}
-use Rattle.pm_elim.specs.NullSpaces.{IsNull, IsNullBasis}
+use Rattle.pm_vector.specs.Evidence.{unit}
+use Rattle.pm_vector.specs.NullSpaces.{IsNull, IsNullBasis}
 use Rattle.pm_geom.proofs.Facets.{dot-opposite}
 use Rattle.pm_geom.proofs.Polar.{cols_at, cut_at, cut_from}
 use Rattle.pm_geom.specs.Cones.{CutOut, InLineality, IsExtreme, IsOrder, SameModulo}

@@ -7,7 +7,7 @@ use Rattle.pm_vector.specs.Rows.{IsZero, Row, opposite}
 use Rattle.pm_vector.proofs.Spans.{same_span, span_from, span_to}
 use Rattle.pm_vector.specs.Bases.{SameSpan, row_at}
 use Rattle.pm_dd.specs.Fronts.{HalfSpaces}
-use Rattle.pm_elim.specs.NullSpaces.{IsNull, IsNullBasis}
+use Rattle.pm_vector.specs.NullSpaces.{IsNull, IsNullBasis}
 use Rattle.pm_incidence.proofs.Determined.{AreFound, lineality_basis, one_lineality}
 use Rattle.pm_incidence.specs.FromSets.{AreDetermined, determining}
 use Rattle.pm_incidence.specs.SetRows.{IsTurned}

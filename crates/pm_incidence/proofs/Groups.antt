@@ -9,8 +9,8 @@ use Rattle.pm_vector.proofs.Lists.{Among, all_append, here, there}
 use Rattle.pm_vector.specs.Bases.{row_at}
 use Rattle.pm_dd.proofs.Marks.{marked_lengths}
 use Rattle.pm_dd.proofs.StepLaws.{at_place, place_of}
-use Rattle.pm_elim.specs.EliminationSteps.{EliminationStep}
-use Rattle.pm_elim.specs.Evidence.{IsEvidence}
+use Rattle.pm_vector.specs.EliminationSteps.{EliminationStep}
+use Rattle.pm_vector.specs.Evidence.{IsEvidence}
 use Rattle.pm_geom.specs.StatedOrder.{rows_marked}
 use Rattle.pm_incidence.specs.Thinning.{AreZeroSets, IsWideReduction, MarkFull, flat_group, is_flat}
 use lib.IntN.{ℤ, pos}

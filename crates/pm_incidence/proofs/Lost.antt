@@ -1,6 +1,7 @@
 -- Where an elimination by wide numbers is lost, thinning is given up.
 use Rattle.pm_vector.specs.Rows.{Row}
-use Rattle.pm_elim.specs.Evidence.{IfWide, IsBasisOf}
+use Rattle.pm_elim.specs.Refusals.{IfWide}
+use Rattle.pm_vector.specs.Evidence.{IsBasisOf}
 use Rattle.pm_elim.specs.Lost.{IsLost, IsLostOnNext}
 use Rattle.pm_elim.specs.declared.evidence.ElimFail.{ElimFail}
 use Rattle.pm_elim.specs.declared.evidence.ElimFail.TheVariants as elimination

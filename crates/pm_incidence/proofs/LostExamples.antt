@@ -12,10 +12,10 @@ use Rattle.pm_dd.proofs.ZeroRows.{no_basis}
 use Rattle.pm_elim.proofs.BasisLaws.{basis_unique}
 use Rattle.pm_elim.proofs.DualLaws.{null_basis_unique}
 use Rattle.pm_elim.proofs.LostExamples.{lost_eliminations_are_read, lost_steps_are_read}
-use Rattle.pm_elim.specs.Evidence.{IsBasisOf}
+use Rattle.pm_vector.specs.Evidence.{IsBasisOf}
 use Rattle.pm_elim.specs.Lost.{IsLostOnExtended, IsLostOnNext}
 use Rattle.pm_elim.specs.LostExamples.{even_next, even_row, odd_next, odd_row, one_entry, two_rows}
-use Rattle.pm_elim.specs.NullSpaces.{IsNull, IsNullBasis}
+use Rattle.pm_vector.specs.NullSpaces.{IsNull, IsNullBasis}
 use Rattle.pm_geom.proofs.ShortRows.{by_two}
 use Rattle.pm_incidence.proofs.Products.{itself, only_one}
 use Rattle.pm_incidence.proofs.ThinExamples.{one_echelon}

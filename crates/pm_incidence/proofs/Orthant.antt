@@ -15,8 +15,8 @@ use Rattle.pm_vector.specs.Bases.{row_at}
 use Rattle.pm_dd.specs.Fronts.{HalfSpaces}
 use Rattle.pm_dd.proofs.StepLaws.{at_place, place_of}
 use Rattle.pm_dd.proofs.ZeroRows.{dot_zero}
-use Rattle.pm_elim.specs.Evidence.{unit}
-use Rattle.pm_elim.proofs.DotLaws.{dot-unit}
+use Rattle.pm_vector.specs.Evidence.{unit}
+use Rattle.pm_vector.proofs.DotLaws.{dot-unit}
 use Rattle.pm_elim.proofs.ExtendedLaws.{length-unit, unit_one, unit_zero}
 use Rattle.pm_geom.specs.Cones.{CutOut, InLineality, IsFacetRow, IsValid, MultipleModulo, SameModulo}
 use Rattle.pm_geom.proofs.Polar.{cut_at, cut_from}

@@ -9,7 +9,7 @@ use Rattle.pm_vector.specs.Rows.{IsZero, Row, dot, entry, opposite, plus, times}
 use Rattle.pm_vector.proofs.BasisExamples.{primitive_by_one}
 use Rattle.pm_vector.specs.Bases.{IsEchelonBasis, row_at}
 use Rattle.pm_elim.proofs.DualLaws.{null_basis_unique}
-use Rattle.pm_elim.specs.NullSpaces.{IsNull, IsNullBasis}
+use Rattle.pm_vector.specs.NullSpaces.{IsNull, IsNullBasis}
 use Rattle.pm_geom.proofs.Apart.{lineality_spanned}
 use Rattle.pm_geom.proofs.ShortRows.{by_two}
 use Rattle.pm_geom.specs.Cones.{InLineality, SameModulo}

@@ -7,9 +7,10 @@ use Rattle.pm_vector.proofs.Spans.{at_place}
 use Rattle.pm_vector.specs.Bases.{IsEchelonBasis, column, row_at}
 use Rattle.pm_elim.proofs.ExtendedLaws.{length-unit}
 use Rattle.pm_elim.proofs.PrefixLaws.{at_most_columns}
-use Rattle.pm_elim.specs.Evidence.{IfWide, IsEvidence, unit}
+use Rattle.pm_elim.specs.Refusals.{IfWide}
+use Rattle.pm_vector.specs.Evidence.{IsEvidence, unit}
 use Rattle.pm_elim.specs.Lost.{IsLostOnExtended}
-use Rattle.pm_elim.specs.NullSpaces.{IsNullBasis}
+use Rattle.pm_vector.specs.NullSpaces.{IsNullBasis}
 use Rattle.pm_elim.specs.declared.evidence.ElimFail.{ElimFail}
 use Rattle.pm_elim.specs.declared.evidence.ElimFail.TheVariants as elimination
 use Rattle.pm_geom.proofs.Polar.{cols_at}

@@ -5,13 +5,13 @@ use Rattle.pm_incidence.proofs.Products.{only_one, stays_turned, unit_stays}
 use Rattle.pm_incidence.specs.SetRows.{IsWideWith}
 use Rattle.pm_object_type.specs.declared.object_type.ObjectType.{ObjectType}
 use Rattle.pm_object_type.specs.declared.object_type.ObjectType.TheVariants.{Cone, Fan, Polytope}
-use Rattle.pm_elim.specs.EliminationSteps.{EliminationStep}
-use Rattle.pm_elim.specs.Evidence.{IfWide}
+use Rattle.pm_vector.specs.EliminationSteps.{EliminationStep}
+use Rattle.pm_elim.specs.Refusals.{IfWide}
 use Rattle.pm_elim.specs.declared.evidence.ElimFail.{ElimFail}
 use Rattle.pm_elim.specs.declared.evidence.ElimFail.TheVariants.{Memory, Wide}
 use Rattle.pm_incidence.specs.Fails.{exchanged, thin_fail_of}
 use Rattle.pm_incidence.specs.Thinning.{IsFacetsFail, IsInsideFail, IsProductFail, IsRanged, IsReductionFail, IsThinFail, IsWideReduction, flat_group, half_spaces}
-use Rattle.pm_elim.specs.Evidence.{IsBasisOf, IsEvidence, unit}
+use Rattle.pm_vector.specs.Evidence.{IsBasisOf, IsEvidence, unit}
 use Rattle.pm_geom.specs.declared.evidence.Evidence.TheVariants.{E1, E2, E3, E4, E5Cells, E5Faces, E5Rays, E5Rows}
 use Rattle.pm_incidence.specs.declared.fails.ThinFail.{ThinFail}
 use Rattle.pm_incidence.specs.declared.fails.ThinFail.TheVariants as thin

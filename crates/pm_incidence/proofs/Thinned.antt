@@ -16,7 +16,7 @@ use Rattle.pm_vector.proofs.Filters.{among_filter, filter_among}
 use Rattle.pm_vector.proofs.Lists.{All_among, Among, Any_among, Contains_among, all_from, among_All, among_append, among_append_left, among_append_right}
 use Rattle.pm_vector.specs.Bases.{row_at}
 use Rattle.pm_vector.proofs.Spans.{span_of, span_to}
-use Rattle.pm_elim.specs.Evidence.{IsBasisOf}
+use Rattle.pm_vector.specs.Evidence.{IsBasisOf}
 use Rattle.pm_geom.specs.Cones.{CutOut, InLineality, IsExtreme, IsOrder, SameModulo}
 use Rattle.pm_geom.specs.Generators.{AreGenerators, IsLinealityBasis, VanishAt}
 use Rattle.pm_geom.proofs.Extreme.{in_lines}

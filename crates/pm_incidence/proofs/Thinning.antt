@@ -10,7 +10,7 @@ use Rattle.pm_vector.proofs.Lists.{Among, Contains_among, all_append, among_Cont
 use Rattle.pm_vector.proofs.RowLaws.{length-opposite}
 use Rattle.pm_vector.specs.Bases.{row_at}
 use Rattle.pm_bits.specs.Sets.{IsSubset, has}
-use Rattle.pm_elim.specs.NullSpaces.{IsNull}
+use Rattle.pm_vector.specs.NullSpaces.{IsNull}
 use Rattle.pm_geom.specs.Cones.{CutOut, InLineality, IsExtreme, SameModulo}
 use Rattle.pm_geom.proofs.Facets.{dot-opposite, opposite-dot}
 use Rattle.pm_geom.proofs.Polar.{cols_at, cut_from}

@@ -7,9 +7,9 @@ use Rattle.pm_vector.specs.Cones.{InSpan}
 use Rattle.pm_vector.specs.Divisors.{IsPrimitive}
 use Rattle.pm_vector.specs.Rows.{IsZero, Row}
 use Rattle.pm_vector.specs.Bases.{row_at}
-use Rattle.pm_elim.specs.EliminationSteps.{EliminationStep}
-use Rattle.pm_elim.specs.Evidence.{IsEvidence, unit}
-use Rattle.pm_elim.specs.NullSpaces.{IsNull, IsNullBasis}
+use Rattle.pm_vector.specs.EliminationSteps.{EliminationStep}
+use Rattle.pm_vector.specs.Evidence.{IsEvidence, unit}
+use Rattle.pm_vector.specs.NullSpaces.{IsNull, IsNullBasis}
 use Rattle.pm_geom.specs.Cones.{SameModulo}
 use Rattle.pm_geom.specs.Evidence.{IsWideProduct}
 use Rattle.pm_geom.specs.Generators.{IsLinealityBasis, VanishAt}

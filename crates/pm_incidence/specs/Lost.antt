@@ -3,7 +3,7 @@
 use Rattle.std.specs.Prelude.{ℕ, List, ◌++◌, ◌⊎◌}
 use Rattle.std.specs.List.{Contains}
 use Rattle.pm_vector.specs.Rows.{Row}
-use Rattle.pm_elim.specs.Evidence.{IsBasisOf}
+use Rattle.pm_vector.specs.Evidence.{IsBasisOf}
 use Rattle.pm_elim.specs.Lost.{IsLost, IsLostOnExtended, IsLostOnNext}
 use Rattle.pm_incidence.specs.FromSets.{IsDetermining}
 use Rattle.pm_incidence.specs.Thinning.{flat_group}

@@ -2,7 +2,7 @@
 use Rattle.std.specs.Prelude.{ℕ, ◌==◌, ◌≡◌, ◌⊎◌, List, [], ◌∷◌, if◌then◌else◌, length, replicate, unsigned_abs}
 use Rattle.std.specs.List.{Contains}
 use Rattle.pm_vector.specs.Rows.{Row, dot, opposite}
-use Rattle.pm_elim.specs.NullSpaces.{IsNullBasis}
+use Rattle.pm_vector.specs.NullSpaces.{IsNullBasis}
 use Rattle.pm_geom.specs.Evidence.{IsWideProduct}
 use Rattle.pm_geom.specs.declared.evidence.Evidence.TheVariants.{E4}
 use Rattle.pm_incidence.specs.FromSets.{determining}

@@ -2,7 +2,7 @@
 -- holds, and what does not.
 use Rattle.pm_vector.specs.Cones.{InCone}
 use Rattle.pm_vector.specs.Rows.{Row}
-use Rattle.pm_elim.specs.Evidence.{unit}
+use Rattle.pm_vector.specs.Evidence.{unit}
 use Rattle.pm_geom.specs.declared.evidence.Evidence.TheVariants.{E4, E5Rows}
 use Rattle.pm_incidence.specs.Examples.{pair}
 use Rattle.pm_incidence.specs.FromSets.{AreCanonicalFor, AreDetermined, IsDetermining, IsSetsFail, IsTurnedSetsFail, determining, holders_from, rows_at, turned}

@@ -15,9 +15,9 @@ use Rattle.pm_vector.specs.Bases.{row_at}
 use Rattle.pm_bits.specs.Sets.{IsSubset, has}
 use Rattle.pm_dd.specs.Fronts.{HalfSpaces}
 use Rattle.pm_dd.specs.Tables.{IsZeroSet, zero_set}
-use Rattle.pm_elim.specs.EliminationSteps.{EliminationStep}
-use Rattle.pm_elim.specs.Evidence.{IsBasisOf, IsEvidence, unit}
-use Rattle.pm_elim.specs.Steps.{SameDirectionModulo}
+use Rattle.pm_vector.specs.EliminationSteps.{EliminationStep}
+use Rattle.pm_vector.specs.Evidence.{IsBasisOf, IsEvidence, unit}
+use Rattle.pm_vector.specs.Steps.{SameDirectionModulo}
 use Rattle.pm_vector.specs.Cones.{InCone}
 use Rattle.pm_geom.specs.Cones.{IsFacetRow, IsValid, SameModulo}
 use Rattle.pm_geom.specs.Evidence.{IsWideProduct}

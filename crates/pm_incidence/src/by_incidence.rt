@@ -4,7 +4,7 @@ ghost use Rattle.pm_object_type.specs.declared.object_type.ObjectType.TheVariant
 ghost use Rattle.pm_vector.specs.Cones.{InCone};
 ghost use Rattle.pm_vector.specs.Rows.{HasCols};
 ghost use Rattle.pm_vector.specs.Bases.{IsEchelonBasis};
-ghost use Rattle.pm_elim.specs.Evidence.{unit};
+ghost use Rattle.pm_vector.specs.Evidence.{unit};
 ghost use Rattle.pm_geom.specs.Generators.{AreGenerators};
 ghost use Rattle.pm_incidence.specs.Lost.{IfThinWide, ThinningIsLost};
 ghost use Rattle.pm_incidence.specs.Thinning.{HasPointAmong, IsThinFail, half_spaces};
@@ -14,11 +14,10 @@ ghost use Rattle.std.specs.Prelude.{IfErr, IfOk, IsTrue, List, length, map, true
 
 use crate::fails::ThinFail;
 use crate::thin::thin;
-use pm_elim::copies;
 use pm_geom::descriptions::{Facets, Generators};
 use pm_geom::unit_row;
 use pm_props::ObjectType;
-use pm_vector::Ints;
+use pm_vector::{Ints, copies};
 use std::alloc::{AllocError, Global};
 
 /// The half-spaces of a thing as they are taken: those of a polytope end with the row (1, 0, .., 0).

@@ -4,7 +4,7 @@ ghost use Rattle.pm_vector.specs.Cones.{InCone};
 ghost use Rattle.pm_vector.specs.Rows.{HasCols};
 ghost use Rattle.pm_vector.specs.Bases.{IsEchelonBasis};
 ghost use Rattle.pm_dd.specs.Fronts.{HalfSpaces};
-ghost use Rattle.pm_elim.specs.NullSpaces.{IsNull};
+ghost use Rattle.pm_vector.specs.NullSpaces.{IsNull};
 ghost use Rattle.pm_geom.specs.Cones.{CutOut, IsValid};
 ghost use Rattle.pm_geom.specs.Generators.{AreGenerators};
 ghost use Rattle.pm_incidence.specs.Lost.{IfThinWide, ThinningIsLost};

@@ -5,9 +5,9 @@ ghost use Rattle.pm_vector.specs.Rows.{HasCols, Row, dot as dot_of, entry};
 ghost use Rattle.pm_vector.specs.Bases.{IsEchelonBasis};
 ghost use Rattle.pm_vector.specs.WideInts.{value_of};
 ghost use Rattle.pm_dd.specs.Fronts.{HalfSpaces};
-ghost use Rattle.pm_elim.specs.Evidence.{unit};
+ghost use Rattle.pm_vector.specs.Evidence.{unit};
 ghost use Rattle.pm_elim.specs.Lost.{IsLostOnExtended};
-ghost use Rattle.pm_elim.specs.NullSpaces.{IsNullBasis};
+ghost use Rattle.pm_vector.specs.NullSpaces.{IsNullBasis};
 ghost use Rattle.pm_geom.specs.Cones.{IsOrder, IsValid};
 ghost use Rattle.pm_geom.specs.Evidence.{IsWideProduct};
 ghost use Rattle.pm_incidence.specs.Fails.{exchanged};
@@ -18,11 +18,11 @@ ghost use Rattle.pm_types.specs.Right.{IsIncidence};
 ghost use Rattle.std.specs.Prelude.{All, IfErr, IfOk, IsTrue, List, MatchOption, [], length, map, pos, replicate, true, ◌++◌, ◌<ℤ◌, ◌<◌, ◌^◌, ◌∷◌, ◌≡◌, ◌≤◌, ◌↔◌, ℕ};
 
 use crate::fails::ThinFail;
-use pm_elim::{copies, null_space_by};
+use pm_elim::null_space_by;
 use pm_geom::descriptions::{Facets, Generators};
 use pm_geom::{Evidence, unit_row};
 use pm_types::Sets;
-use pm_vector::{Ints, WideInt, dot, negate, wide_dot};
+use pm_vector::{Ints, WideInt, copies, dot, negate, wide_dot};
 use std::alloc::{AllocError, Global};
 
 /// The first column in which a row is not 0, and its length for a row of zeros.

@@ -3,7 +3,8 @@
 ghost use Rattle.pm_vector.specs.Rows.{HasCols, Row};
 ghost use Rattle.pm_vector.specs.Bases.{IsEchelonBasis};
 ghost use Rattle.pm_dd.specs.Fronts.{HalfSpaces};
-ghost use Rattle.pm_elim.specs.Evidence.{IfWide, IsEvidence};
+ghost use Rattle.pm_elim.specs.Refusals.{IfWide};
+ghost use Rattle.pm_vector.specs.Evidence.{IsEvidence};
 ghost use Rattle.pm_elim.specs.Lost.{IsLostOnNext};
 ghost use Rattle.pm_geom.specs.Generators.{AreGenerators};
 ghost use Rattle.pm_geom.specs.StatedOrder.{rows_marked};
@@ -14,9 +15,9 @@ ghost use Rattle.std.specs.List.{All};
 
 use crate::fails::ThinFail;
 use crate::zeros::{full_marks, kept_places, zero_rows};
-use pm_elim::{Echelon, ElimFail, copies, echelon_by, reduced_by};
+use pm_elim::{Echelon, ElimFail, echelon_by, reduced_by};
 use pm_geom::descriptions::Generators;
-use pm_vector::{Ints, primitive};
+use pm_vector::{Ints, copies, primitive};
 use std::alloc::{AllocError, Global};
 
 /// The lines, and then the rows that are marked.

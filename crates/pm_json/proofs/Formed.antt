@@ -3,10 +3,9 @@ use Rattle.std.proofs.Common.{ap, subst, ◌∙◌, ◌≡◌, ◌≤◌, true, 
 use Rattle.pm_vector.specs.Numbers.{Ratio}
 use Rattle.serde_json.specs.Data.{Data}
 use Rattle.pm_types.specs.Forms.{is_formed, is_matrix_form, is_sets_form}
-use Rattle.pm_props.specs.Properties.{is_of_matrices, is_of_sets}
-use Rattle.pm_props.specs.Properties.{value_kind}
+use Rattle.pm_props.specs.Properties.{is_of_matrices, is_of_sets, value_kind}
 use Rattle.pm_props.specs.declared.property.ValueKind.TheVariants as kind
-use Rattle.pm_matrix.specs.Matrices.{FractionMatrix}
+use Rattle.pm_fraction.specs.Matrices.{FractionMatrix}
 use Rattle.pm_types.specs.Values.{PropertyValue, matrix}
 use Rattle.pm_props.specs.declared.property.PropId.{PropId}
 use Rattle.pm_props.specs.declared.property.PropId.TheVariants.{F2Vector, LinearObjective, SiteHeights, Sites}

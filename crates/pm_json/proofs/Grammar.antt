@@ -9,7 +9,7 @@ use Rattle.pm_json.specs.Grammar.{AreItems, AreJsonSets, HasColumnCount, IsArray
 use Rattle.pm_json.specs.Readings.{Read, SetsSeen, above_sets, and_then, before, before_sets, cols_member, count_of, count_up_to_limit, counts_from, edges_with, entries_from, entry_of, face_from, faces_from, first_row_of, has_index, index_below_limit, index_of, items_of, later_row_from, later_rows_from, matrix_from, matrix_of, matrix_reading, matrix_with, nodes_from, number_value_of, object_behind, one_row_of, only_cols, or_fault, ranks_from, reading, reading_of, rows_before, rows_from, set_from, sets_from, sets_of, sets_with, stated_last, stated_of, whole_count_of, whole_number_of, whole_of, whole_value, with_cols, with_index}
 use Rattle.pm_json.specs.declared.fail.ValueFail.{ValueFail}
 use Rattle.pm_json.specs.declared.fail.ValueFail.TheVariants.{Shape, Number, Index, Limit}
-use Rattle.pm_matrix.specs.Matrices.{FractionMatrix}
+use Rattle.pm_fraction.specs.Matrices.{FractionMatrix}
 use Rattle.pm_props.specs.Properties.{is_ambient, value_kind}
 use Rattle.pm_props.specs.declared.property.PropId.{PropId}
 use Rattle.pm_props.specs.declared.property.PropId.TheVariants.{F2Vector, LinearObjective, SiteHeights, Sites}

@@ -5,7 +5,7 @@ use Rattle.std.specs.List.{list_all}
 use Rattle.serde_json.specs.Data.{Data, Items, no_items, item}
 use Rattle.pm_vector.specs.Numbers.{Ratio}
 use Rattle.pm_types.specs.Forms.{is_row_of_entries, is_column_count, is_list_form, is_matrix_form, is_number, is_table_form}
-use Rattle.pm_matrix.specs.Matrices.{FractionMatrix}
+use Rattle.pm_fraction.specs.Matrices.{FractionMatrix}
 use Rattle.std.specs.Prelude.{None, Option, Some}
 use lib.IntN.{ℤ, negsuc, pos}
 use Rattle.pm_json.proofs.Parts.{same_Ok, and_then-ok, either-ok, err_ok, then-ok, else-ok}

@@ -33,7 +33,7 @@ use Rattle.pm_fraction.specs.Fractions.{ratio_of, signed}
 use Rattle.pm_fraction.specs.Text.{bottom_text, top_text}
 use Rattle.pm_types.specs.Forms.{are_joined_back, has_64_bits, is_dimension, is_number}
 use Rattle.pm_props.specs.Properties.{is_ambient, value_kind}
-use Rattle.pm_matrix.specs.Matrices.{FractionMatrix}
+use Rattle.pm_fraction.specs.Matrices.{FractionMatrix}
 use Rattle.pm_types.specs.Values.{PropertyValue, matrix, sets, whole, truth, counts, edges, lattice, extended, Extended, finite, plus_infinity, minus_infinity}
 use Rattle.pm_types.specs.Views.{over_one}
 use Rattle.pm_props.specs.declared.property.PropId.{PropId}

@@ -11,9 +11,8 @@ ghost use Rattle.std.specs.Prelude.{IfErr, IfOk, OnErr, OnOk, Some, [], length, 
 use crate::fail::ValueFail;
 use crate::number::{read_entry, read_items, read_whole_number};
 use crate::sets::read_cols_member;
-use pm_fraction::Fraction;
+use pm_fraction::{Fraction, Matrix};
 use pm_limits::{MOST_COLUMNS, MOST_ROWS, MOST_SITE_COLUMNS};
-use pm_matrix::Matrix;
 use pm_props::PropId;
 use pm_types::Value as PropertyValue;
 use serde_json::Value;

@@ -10,8 +10,8 @@ use Rattle.pm_clients_geom.specs.Lists.{IsLostList}
 use Rattle.pm_elim.proofs.LostExamples.{lost_eliminations_are_read}
 use Rattle.pm_clients_geom.specs.LostListExamples.{with_rays}
 use Rattle.pm_elim.specs.LostExamples.{odd_next, odd_row}
-use Rattle.pm_matrix.proofs.Denominators.{least_unique}
-use Rattle.pm_matrix.specs.FractionRows.{ArePrimitiveRowsOf, IsPrimitiveRowOf, numerators_over}
+use Rattle.pm_fraction.proofs.Denominators.{least_unique}
+use Rattle.pm_fraction.specs.FractionRows.{ArePrimitiveRowsOf, IsPrimitiveRowOf, numerators_over}
 use Rattle.pm_minors.specs.Laws.{MinorsAreAtMost}
 use Rattle.pm_minors.specs.Minors.{IsAtMost}
 use Rattle.pm_props.specs.declared.property.PropId.TheVariants.{LinealitySpace, Vertices}

@@ -8,7 +8,7 @@ use Rattle.pm_vector.proofs.RowLaws.{entry-opposite, length-opposite}
 use Rattle.pm_vector.proofs.Spans.{place_of}
 use Rattle.pm_vector.specs.Rows.{HasCols, Row, opposite}
 use Rattle.pm_elim.proofs.BasisLaws.{row_length}
-use Rattle.pm_elim.specs.Evidence.{IsBasisOf}
+use Rattle.pm_vector.specs.Evidence.{IsBasisOf}
 use Rattle.pm_dd.specs.Fronts.{both_signs}
 use Rattle.pm_dd.specs.HullRefusals.{IsDoubleList}
 use Rattle.pm_dd.specs.Lost.{DescriptionIsLost, PartsAreLost}

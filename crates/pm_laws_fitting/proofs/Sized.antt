@@ -9,7 +9,7 @@ use Rattle.pm_vector.proofs.Filters.{filter_among, map_among}
 use Rattle.pm_vector.proofs.Lists.{All_among, Among, all_at, all_from, among_All, among_append, here}
 use Rattle.pm_vector.specs.Rows.{HasCols, Row}
 use Rattle.pm_elim.proofs.ExtendedLaws.{length-unit}
-use Rattle.pm_elim.specs.Evidence.{unit}
+use Rattle.pm_vector.specs.Evidence.{unit}
 use Rattle.pm_laws_fitting.specs.Sizes.{IsSizeFor}
 use Rattle.std.proofs.Common.{arith, inl, inr, subst, sym}
 use Rattle.std.specs.List.{All}

@@ -4,7 +4,7 @@ use Rattle.pm_vector.proofs.Lists.{Among, among_Contains, among_All}
 use Rattle.pm_vector.proofs.Spans.{at_place}
 use Rattle.pm_vector.specs.Bases.{row_at}
 use Rattle.pm_vector.specs.Rows.{Row}
-use Rattle.pm_elim.specs.Evidence.{IsBasisOf, unit}
+use Rattle.pm_vector.specs.Evidence.{IsBasisOf, unit}
 use Rattle.pm_elim.specs.Lost.{IsLost, IsLostOnNext, IsLostRound}
 use Rattle.pm_fan.specs.Dimensions.{IsLostCone}
 use Rattle.pm_geom.specs.Faces.{ray}

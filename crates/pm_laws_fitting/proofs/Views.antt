@@ -9,7 +9,7 @@ use Rattle.pm_clients_geom.specs.Lists.{IsLostExtendedList, IsLostList}
 use Rattle.pm_clients_geom.specs.Thinned.{ReadsLostRows, ReadsLostSets}
 use Rattle.pm_clients_lift.specs.LiftedSites.{ReadsLostDelaunaySites, ReadsLostSites}
 use Rattle.pm_elim.proofs.ExtendedLaws.{length-unit}
-use Rattle.pm_elim.specs.Evidence.{unit}
+use Rattle.pm_vector.specs.Evidence.{unit}
 use Rattle.pm_geom.specs.declared.evidence.Evidence.{Evidence}
 use Rattle.pm_geom.specs.declared.evidence.Evidence.TheVariants.{E1, E2, E3, E4, E5Cells, E5Faces, E5Rays, E5Rows}
 use Rattle.pm_minors.specs.Minors.{IsAtMost}
@@ -19,9 +19,8 @@ use Rattle.pm_object_type.specs.declared.object_type.ObjectType.{ObjectType}
 use Rattle.pm_object_type.specs.declared.object_type.ObjectType.TheVariants.{Cone, Fan, Polytope}
 use Rattle.pm_props.specs.declared.property.PropId.{PropId}
 use Rattle.pm_props.specs.declared.property.PropId.TheVariants.{Inequalities}
-use Rattle.pm_vector.proofs.Lists.{among_All}
+use Rattle.pm_vector.proofs.Lists.{all_at, among_All}
 use Rattle.pm_vector.proofs.Spans.{at_place}
-use Rattle.pm_vector.proofs.Lists.{all_at}
 use Rattle.pm_vector.specs.Numbers.{Ratio}
 use Rattle.pm_vector.specs.Rows.{Row}
 use Rattle.pm_laws_fitting.specs.Sizes.{AreAtMost, BothAreAtMost, ConesFit, FitsBySize, FitsDoubled, LiftedFit, PartsFit, RaisedFit}

@@ -9,7 +9,7 @@ use Rattle.pm_clients_geom.specs.Hulls.{HullFails}
 use Rattle.pm_clients_geom.specs.Thinned.{ThinFails}
 use Rattle.pm_clients_geom.specs.declared.hulls.HullWork.TheVariants as hull
 use Rattle.pm_clients_geom.specs.declared.thinning.ThinWork.TheVariants as thin
-use Rattle.pm_matrix.specs.FractionRows.{ArePrimitiveRowsOf}
+use Rattle.pm_fraction.specs.FractionRows.{ArePrimitiveRowsOf}
 use Rattle.pm_minors.specs.Laws.{IsEnough, MinorsAreAtMost}
 use Rattle.pm_minors.specs.Minors.{IsAtMost}
 use Rattle.pm_object.specs.Reading.{ViewSeen, view_for}

@@ -3,7 +3,7 @@
 use Rattle.std.specs.Prelude.{ℕ, ◌≡◌, ◌<◌, ◌↔◌, ◌⊎◌, Bool, true, false, List, [], ◌∷◌, ◌++◌, filter, length, map}
 use Rattle.std.specs.List.{All, AllPairs, Any, Contains, range_with_len}
 use Rattle.pm_vector.specs.Rows.{Row}
-use Rattle.pm_elim.specs.NullSpaces.{IsNull}
+use Rattle.pm_vector.specs.NullSpaces.{IsNull}
 use Rattle.pm_geom.specs.Cones.{CutOut, IsExtremeRay, IsValid}
 use Rattle.pm_geom.specs.Faces.{ray}
 use Rattle.pm_geom.specs.Generators.{AreGenerators, IsBefore}

@@ -9,7 +9,7 @@ use Rattle.pm_laws_placing.proofs.Examples.{one}
 use Rattle.pm_laws_placing.proofs.Triangulates.{placing_triangulates}
 use Rattle.pm_laws_placing.specs.Examples.{SquareIsPlaced, lower, upper}
 use Rattle.pm_laws_placing.specs.Placing.{IsCellStep, IsExchange, IsFirstCell, IsNextCells, IsOnlyOff, IsPlacing}
-use Rattle.pm_elim.specs.Enlarging.{MarkEnlarging}
+use Rattle.pm_vector.specs.Enlarging.{MarkEnlarging}
 use Rattle.pm_geom.proofs.Apart.{apart, order_of_apart, without}
 use Rattle.pm_geom.proofs.ShortRows.{at_three, by_three}
 use Rattle.pm_geom.proofs.ValidRows.{facet_order, null_in}

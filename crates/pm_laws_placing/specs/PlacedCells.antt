@@ -4,7 +4,7 @@ use Rattle.std.specs.Prelude.{ℕ, ◌<◌, ◌↔◌, List, ◌++◌, length}
 use Rattle.std.specs.List.{All, AllPairs, Contains}
 use Rattle.pm_vector.specs.Rows.{Row}
 use Rattle.pm_dd.specs.Fronts.{both_signs}
-use Rattle.pm_elim.specs.Evidence.{IsBasisOf}
+use Rattle.pm_vector.specs.Evidence.{IsBasisOf}
 use Rattle.pm_geom.specs.FaceCounts.{IsLexBefore}
 use Rattle.pm_geom.specs.Graphs.{IsAscending}
 use Rattle.pm_laws_placing.specs.Placing.{IsPlacing}

@@ -6,7 +6,7 @@ use Rattle.std.specs.List.{All, Contains, slice_index_or}
 use Rattle.pm_vector.specs.Rows.{HasCols, Row, dot}
 use Rattle.pm_vector.specs.Cones.{InCone, InSpan}
 use Rattle.pm_vector.specs.Bases.{row_at}
-use Rattle.pm_elim.specs.Enlarging.{MarkEnlarging}
+use Rattle.pm_vector.specs.Enlarging.{MarkEnlarging}
 use Rattle.pm_geom.specs.Cones.{IsOrder, IsValid, SameModulo}
 use Rattle.pm_geom.specs.Faces.{ray}
 use Rattle.pm_geom.specs.Graphs.{IsAscending}

@@ -8,7 +8,7 @@ use Rattle.pm_laws_texts.proofs.Rows.{before_end, first_row_tells, first_width, 
 use Rattle.pm_laws_texts.specs.ValueFaults.{IsCols, IsNoWidth, IsWhole, NoCols, NoNumberIn, NotWhole, NumberIn, OfBehind, OfFirstRow, OfMatrix, OfMatrixOf, OfRow, OfRows, first_count}
 use Rattle.pm_laws_texts.specs.Places.{OfArray, Tells, count, order}
 use Rattle.pm_limits.specs.Limits.{most_columns, most_rows, most_site_columns}
-use Rattle.pm_matrix.specs.Matrices.{FractionMatrix}
+use Rattle.pm_fraction.specs.Matrices.{FractionMatrix}
 use Rattle.pm_props.specs.declared.property.PropId.{PropId}
 use Rattle.pm_props.specs.declared.property.PropId.TheVariants.{F2Vector, LinearObjective, SiteHeights, Sites}
 use Rattle.pm_types.specs.Forms.{is_number}

@@ -14,7 +14,7 @@ use Rattle.pm_laws_values.proofs.Sorted.{before_never, sorted_same}
 use Rattle.pm_laws_values.proofs.Table.{IsFacetLine, facet_alike, facet_stands, ray_alike}
 use Rattle.pm_laws_values.specs.OneValue.{IsAnswer}
 use Rattle.pm_laws_values.specs.Orders.{FreshIsOne, FreshOrdersAreOne}
-use Rattle.pm_matrix.specs.Matrices.{IsFraction}
+use Rattle.pm_fraction.specs.Matrices.{IsFraction}
 use Rattle.pm_object_type.specs.declared.object_type.ObjectType.TheVariants.{Cone, Fan, Polytope}
 use Rattle.pm_object_type.specs.declared.object_type.ObjectType.{ObjectType}
 use Rattle.pm_props.specs.Kinds.{IsFresh}

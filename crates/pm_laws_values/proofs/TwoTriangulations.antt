@@ -12,7 +12,7 @@ use Rattle.pm_laws_values.specs.OneValue.{IsAnswer}
 use Rattle.pm_object_type.specs.declared.object_type.ObjectType.TheVariants.{Cone}
 use Rattle.pm_props.specs.declared.kind.Kind.{Kind}
 use Rattle.pm_props.specs.declared.property.PropId.TheVariants.{PlacingTriangulation}
-use Rattle.pm_matrix.specs.Matrices.{IsFraction}
+use Rattle.pm_fraction.specs.Matrices.{IsFraction}
 use Rattle.pm_types.specs.Forms.{HasPrimitiveRow, is_sets_form}
 use Rattle.pm_types.specs.Right.{InLines, IsBasis}
 use Rattle.pm_types.specs.Things.{AreOrders, IsThing, Thing}

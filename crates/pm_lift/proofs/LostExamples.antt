@@ -2,7 +2,7 @@
 use Rattle.pm_dd.proofs.LostExamples.{losses_are_read}
 use Rattle.pm_elim.proofs.LostExamples.{lost_eliminations_are_read}
 use Rattle.pm_elim.proofs.SoFar.{basis_none}
-use Rattle.pm_elim.specs.Evidence.{IsBasisOf}
+use Rattle.pm_vector.specs.Evidence.{IsBasisOf}
 use Rattle.pm_elim.specs.Lost.{IsLost, IsLostRound, PrimitiveIsLost}
 use Rattle.pm_elim.specs.LostExamples.{odd_next, odd_row}
 use Rattle.pm_geom.specs.Faces.{ray}

@@ -10,9 +10,8 @@ ghost use Rattle.pm_limits.specs.Limits.{most_rows};
 
 use crate::fails::LiftFail;
 use pm_dd::facets_of;
-use pm_elim::copies;
 use pm_geom::Evidence;
-use pm_vector::{Ints, dot, wide_dot};
+use pm_vector::{Ints, copies, dot, wide_dot};
 use std::alloc::{AllocError, Global};
 
 /// The refusal of two rows whose product leaves the range.

@@ -4,10 +4,9 @@ ghost use Rattle.pm_vector.specs.Rows.{HasCols};
 ghost use Rattle.std.specs.Prelude.{IfOk, IsTrue, length, ◌≡◌, ◌<◌, ◌≤◌, ◌^◌};
 ghost use Rattle.pm_limits.specs.Limits.{most_rows};
 
-use pm_fraction::Fraction;
+use pm_fraction::{Fraction, Matrix, RowsFail};
 use pm_json::{ValueFail, read_value};
 use pm_limits::{MOST_COLUMNS, MOST_ROWS};
-use pm_matrix::{Matrix, RowsFail};
 use pm_simplex::{LpAnswer, LpFail, maximise_rows};
 use pm_types::{PropId, Value};
 use pm_vector::Ints;

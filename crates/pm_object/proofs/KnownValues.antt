@@ -1,7 +1,7 @@
 -- What is read of objects that hold it: rows of n columns, not too many, and sets.
 use Rattle.pm_object_type.specs.declared.object_type.ObjectType.TheVariants.{Cone, Fan, Polytope}
 use Rattle.std.proofs.lemmas.List.Sums.{AllPass-from_list_all}
-use Rattle.pm_matrix.specs.Matrices.{IsFraction}
+use Rattle.pm_fraction.specs.Matrices.{IsFraction}
 use Rattle.pm_object.specs.Known.{IsKnown, IsOfRows, IsOfSets, cols_at, held_rows, held_sets, rows_at, sets_at}
 use Rattle.pm_types.specs.Parts.{matrix_in, sets_in, value_of_sets}
 use Rattle.pm_vector.proofs.Lists.{Contains_among, Among, among_All}

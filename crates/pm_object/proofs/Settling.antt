@@ -5,11 +5,10 @@ use Rattle.pm_object.specs.Formed.{IsFormedIn, IsFormed, is_placed, stands_at}
 use Rattle.pm_object.specs.declared.held.Held.{Held as HeldOf}
 use Rattle.pm_vector.specs.Numbers.{Ratio}
 use Rattle.pm_object.specs.State.{HeldValue, State, agrees, ambient_in, cols_of, first_cols, is_held, has_rounds, names_to_settle, only_if, or_else, settled, settling, sites_agree, value_of, with_held}
-use Rattle.pm_matrix.specs.Matrices.{IsFraction}
+use Rattle.pm_fraction.specs.Matrices.{IsFraction}
 use Rattle.pm_types.specs.Forms.{HasPrimitiveRow, cols_in, is_column_count, is_dimension, is_formed, is_matrix_form, is_matrix_of, is_row_of_entries, stated_cols}
 use Rattle.pm_props.specs.Places.{same_place, same_property}
-use Rattle.pm_props.specs.Properties.{has, has_program, is_columned, is_of_matrices}
-use Rattle.pm_props.specs.Properties.{value_kind}
+use Rattle.pm_props.specs.Properties.{has, has_program, is_columned, is_of_matrices, value_kind}
 use Rattle.pm_types.specs.Values.{PropertyValue, matrix, sets, whole, truth, extended, edges, lattice, counts}
 use Rattle.pm_props.specs.declared.property.PropId.{PropId}
 use Rattle.pm_props.specs.declared.property.PropId.TheVariants.{ConeAmbientDim, Points, InputLineality, Inequalities, Equations, Vertices, LinealitySpace, Facets, AffineHull, F2Vector, LinearObjective, SiteHeights, Sites}

@@ -9,7 +9,7 @@ ghost use Rattle.std.specs.Prelude.{IsTrue, None, Some, ◌≡◌, ◌≤◌};
 ghost use Rattle.pm_limits.specs.Limits.{most_columns};
 
 use crate::object::Object;
-use pm_matrix::Matrix;
+use pm_fraction::Matrix;
 use pm_types::{ObjectType, PropId, Sets};
 
 /// Whether the object is a polytope.

@@ -6,7 +6,7 @@ ghost use Rattle.pm_types.specs.Views.{view_of};
 ghost use Rattle.std.specs.Prelude.{IfOk, OnOk, map, ◌++◌, ◌<◌, ◌^◌, ◌≡◌};
 
 use crate::held::{Held, Origin};
-use pm_matrix::Matrix;
+use pm_fraction::Matrix;
 use pm_types::{PropId, Value};
 use std::alloc::{AllocError, Global};
 

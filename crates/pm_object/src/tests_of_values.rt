@@ -1,7 +1,7 @@
 // What is asked of a value before it is taken: its columns and its rows.
 
 ghost use Rattle.pm_object.specs.State.{agrees, agree_in_sites, first_cols, have_as_many_sites, is_given, sites_agree};
-ghost use Rattle.pm_matrix.specs.Matrices.{IsFraction};
+ghost use Rattle.pm_fraction.specs.Matrices.{IsFraction};
 ghost use Rattle.pm_types.specs.Forms.{AreFractions, HasPrimitiveRow, HavePrimitiveRows, agrees_with, is_formed, stated_cols};
 ghost use Rattle.pm_object.specs.Views.{held_seen};
 ghost use Rattle.pm_types.specs.Values.{matrix};
@@ -10,7 +10,7 @@ ghost use Rattle.std.specs.Prelude.{All, IfErr, IsTrue, OnOk, if◌then◌else�
 ghost use Rattle.pm_limits.specs.Limits.{most_rows};
 
 use crate::held::{Held, Origin, TakeFail};
-use pm_matrix::{Matrix, RowsFail};
+use pm_fraction::{Matrix, RowsFail};
 use pm_types::{PropId, Value, agrees_with, column_count, reads_entries, row_count, stated_cols};
 use std::alloc::Global;
 

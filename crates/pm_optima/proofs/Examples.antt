@@ -14,7 +14,7 @@ use Rattle.pm_fraction.specs.Fractions.{IsLowestTermsOf, ratio_of}
 use Rattle.pm_geom.specs.Faces.{ray}
 use Rattle.pm_geom.specs.ProgramExamples.{ratio, row, wholes}
 use Rattle.pm_geom.specs.Programs.{IsTimes}
-use Rattle.pm_matrix.specs.FractionRows.{IsLeastDenominator, IsPrimitiveRowOf}
+use Rattle.pm_fraction.specs.FractionRows.{IsLeastDenominator, IsPrimitiveRowOf}
 use Rattle.pm_optima.proofs.Optima.{finite_optimum, none_optimum}
 use Rattle.pm_optima.specs.Examples.{EvidenceIsRead, ObjectivesAreRead, QuotientsAreRead, SensesAreRead, along, best_at, ends, x_alone}
 use Rattle.pm_optima.specs.Objectives.{AreZeroPlaces, IsPrimitiveLevel, IsScaleOf}

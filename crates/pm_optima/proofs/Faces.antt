@@ -1,10 +1,10 @@
 -- The places of the rays at which an objective has a value, by the row that vanishes there; and what the refusals show.
 use Rattle.pm_vector.specs.Numbers.{Ratio}
 use Rattle.pm_vector.specs.Rows.{HasCols, Row, Stands}
-use Rattle.pm_elim.specs.Evidence.{unit}
+use Rattle.pm_vector.specs.Evidence.{unit}
 use Rattle.pm_geom.specs.Faces.{ray}
 use Rattle.pm_geom.specs.declared.evidence.Evidence.TheVariants.{E4}
-use Rattle.pm_matrix.specs.FractionRows.{IsPrimitiveRowOf}
+use Rattle.pm_fraction.specs.FractionRows.{IsPrimitiveRowOf}
 use Rattle.pm_optima.proofs.Levels.{level_vanishes, scale_of}
 use Rattle.pm_optima.proofs.Turned.{turned_scale}
 use Rattle.pm_simplex.proofs.Senses.{objective_length, value_of_ratio}

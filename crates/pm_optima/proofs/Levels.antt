@@ -4,9 +4,9 @@ use Rattle.pm_vector.proofs.RowLaws.{dot-difference, dot_comm, entry-difference,
 use Rattle.pm_vector.proofs.Signs.{mul_cancel, mul_pos}
 use Rattle.pm_vector.specs.Numbers.{Ratio}
 use Rattle.pm_vector.specs.Rows.{Row, Stands, difference, dot, entry, ratio_at}
-use Rattle.pm_elim.proofs.DotLaws.{dot-unit}
+use Rattle.pm_vector.proofs.DotLaws.{dot-unit}
 use Rattle.pm_elim.proofs.ExtendedLaws.{length-unit, unit_one, unit_zero}
-use Rattle.pm_elim.specs.Evidence.{unit}
+use Rattle.pm_vector.specs.Evidence.{unit}
 use Rattle.pm_geom.specs.Programs.{IsTimes}
 use Rattle.pm_optima.proofs.Maxima.{products}
 use Rattle.pm_optima.specs.Objectives.{IsScaleOf}

@@ -8,7 +8,7 @@ use Rattle.pm_fraction.specs.Fractions.{IsLowestTermsOf, IsTooWide}
 use Rattle.pm_geom.specs.Programs.{IsMaximum}
 use Rattle.pm_geom.specs.declared.evidence.Evidence.TheVariants.{E4}
 use Rattle.pm_geom.specs.declared.evidence.Evidence.{Evidence}
-use Rattle.pm_matrix.specs.FractionRows.{IsPrimitiveRowOf}
+use Rattle.pm_fraction.specs.FractionRows.{IsPrimitiveRowOf}
 use Rattle.pm_optima.proofs.ByRays.{grows_found, maximum_at, maximum_found, no_point_found}
 use Rattle.pm_optima.proofs.Lists.{products_length}
 use Rattle.pm_optima.proofs.Turned.{turned_products, turned_scale}

@@ -9,7 +9,7 @@ use Rattle.pm_fraction.specs.Arithmetic.{quotient_of}
 use Rattle.pm_fraction.specs.Fractions.{IsLowestTermsOf, IsTooWide, ratio_of}
 use Rattle.pm_fraction.specs.declared.error.NumError.TheVariants.{DivideByZero, Wide}
 use Rattle.pm_fraction.specs.declared.error.NumError.{NumError}
-use Rattle.pm_matrix.specs.FractionRows.{IsPrimitiveRowOf, numerator_over, numerators_over}
+use Rattle.pm_fraction.specs.FractionRows.{IsPrimitiveRowOf, numerator_over, numerators_over}
 use Rattle.pm_types.proofs.OverFirst.{factor_in_range, not_too_wide}
 use Rattle.pm_optima.specs.Objectives.{IsScaleOf}
 use Rattle.pm_types.specs.Forms.{HasPrimitiveRow}

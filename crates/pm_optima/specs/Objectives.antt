@@ -2,7 +2,7 @@
 use Rattle.pm_vector.specs.Numbers.{Ratio}
 use Rattle.pm_vector.specs.Rows.{Row, Stands, dot, entry, ratio_at}
 use Rattle.pm_geom.specs.Faces.{ray}
-use Rattle.pm_matrix.specs.FractionRows.{IsPrimitiveRowOf}
+use Rattle.pm_fraction.specs.FractionRows.{IsPrimitiveRowOf}
 use Rattle.pm_simplex.specs.OptimumEvidence.{IsLevelRow}
 use Rattle.std.specs.List.{AllPairs, Contains}
 use Rattle.std.specs.Prelude.{List, length, map, ℕ, ◌<◌, ◌≡◌, ◌↔◌}

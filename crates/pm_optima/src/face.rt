@@ -14,9 +14,8 @@ ghost use Rattle.pm_limits.specs.Limits.{most_rows};
 
 use crate::objective::primitive_objective;
 use crate::products::wide_pair;
-use pm_fraction::Fraction;
+use pm_fraction::{Fraction, RowFail, primitive_row};
 use pm_geom::unit_row;
-use pm_matrix::{RowFail, primitive_row};
 use pm_simplex::{LpFail, Sense};
 use pm_vector::{Ints, Wide, dot};
 use std::alloc::{AllocError, Global};

@@ -3,13 +3,12 @@
 ghost use Rattle.pm_vector.specs.Numbers.{InRange};
 ghost use Rattle.pm_vector.specs.Rows.{Stands, entry};
 ghost use Rattle.pm_fraction.specs.Fractions.{ratio_of};
-ghost use Rattle.pm_matrix.specs.FractionRows.{IsPrimitiveRowOf};
+ghost use Rattle.pm_fraction.specs.FractionRows.{IsPrimitiveRowOf};
 ghost use Rattle.pm_optima.specs.Objectives.{IsScaleOf};
 ghost use Rattle.pm_types.specs.Forms.{HasPrimitiveRow};
 ghost use Rattle.std.specs.Prelude.{IfOk, length, pos, ◌<◌, ◌≡◌, ◌≢◌};
 
-use pm_fraction::Fraction;
-use pm_matrix::{RowFail, primitive_row};
+use pm_fraction::{Fraction, RowFail, primitive_row};
 use pm_vector::Ints;
 use std::alloc::{AllocError, Global};
 

@@ -7,7 +7,7 @@ use Rattle.pm_vector.specs.Rows.{HasCols, Row, dot}
 use Rattle.pm_vector.proofs.Rank.{rank_is_determined}
 use Rattle.pm_vector.proofs.Spans.{at_place, place_of, same_span}
 use Rattle.pm_vector.specs.Bases.{IsRank}
-use Rattle.pm_elim.proofs.DotLaws.{dot_span_zero}
+use Rattle.pm_vector.proofs.DotLaws.{dot_span_zero}
 use Rattle.pm_geom.proofs.Polar.{cols_at}
 use Rattle.pm_geom.proofs.ValidRows.{null_in}
 use Rattle.pm_geom.specs.Cones.{IsExtreme, IsOrder, IsValid, Vanishes}

@@ -9,7 +9,7 @@ use Rattle.pm_vector.specs.Rows.{HasCols, Row, difference, dot}
 use Rattle.pm_vector.proofs.Rank.{rank_is_determined}
 use Rattle.pm_vector.proofs.Spans.{at_place, place_of, span_difference, span_divide, span_from, span_of, span_times, span_to}
 use Rattle.pm_vector.specs.Bases.{IsRank}
-use Rattle.pm_elim.proofs.DotLaws.{dot_span_zero}
+use Rattle.pm_vector.proofs.DotLaws.{dot_span_zero}
 use Rattle.pm_geom.proofs.Dimension.{rank_is_left, some_basis}
 use Rattle.pm_geom.proofs.Faces.{difference-dot, total, total_back, total_down, total_valid}
 use Rattle.pm_geom.proofs.Facets.{order_as, valid_by_products}

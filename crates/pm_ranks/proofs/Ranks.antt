@@ -6,7 +6,7 @@ use Rattle.pm_vector.specs.Rows.{HasCols, Row, dot}
 use Rattle.pm_vector.proofs.Rank.{independent_are_few, rank_is_determined}
 use Rattle.pm_vector.proofs.Spans.{at_place, span_from, span_of, span_to}
 use Rattle.pm_vector.specs.Bases.{IsRank, row_at}
-use Rattle.pm_elim.proofs.DotLaws.{dot_span_zero}
+use Rattle.pm_vector.proofs.DotLaws.{dot_span_zero}
 use Rattle.pm_geom.proofs.Dimension.{rank_exists}
 use Rattle.pm_geom.proofs.Facets.{order_as, order_generates}
 use Rattle.pm_geom.proofs.Independent.{independent_more}

@@ -7,7 +7,7 @@ use Rattle.pm_vector.specs.Cones.{InCone, InSpan, IsIndependent}
 use Rattle.pm_vector.specs.Rows.{HasCols, Row, difference, dot, opposite, plus}
 use Rattle.pm_vector.proofs.Spans.{span_difference, span_divide, span_from, span_of, span_to}
 use Rattle.pm_vector.specs.Bases.{IsRank}
-use Rattle.pm_elim.proofs.DotLaws.{dot_span_zero}
+use Rattle.pm_vector.proofs.DotLaws.{dot_span_zero}
 use Rattle.pm_geom.proofs.Dimension.{rank_is_left, some_basis}
 use Rattle.pm_geom.proofs.Faces.{difference-dot}
 use Rattle.pm_geom.proofs.Facets.{dot-opposite, facet_rows_cut_out, opposite-dot, valid_by_products, vanishes_line}

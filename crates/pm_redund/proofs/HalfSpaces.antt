@@ -7,9 +7,9 @@ use Rattle.pm_vector.specs.Rows.{HasCols, IsZero, Row, dot, entry, opposite}
 use Rattle.pm_vector.specs.Bases.{row_at}
 use Rattle.pm_dd.proofs.MixedLaws.{generators_as}
 use Rattle.pm_dd.specs.Fronts.{HalfSpaces}
-use Rattle.pm_elim.proofs.DotLaws.{dot-unit}
+use Rattle.pm_vector.proofs.DotLaws.{dot-unit}
 use Rattle.pm_elim.proofs.ExtendedLaws.{length-unit}
-use Rattle.pm_elim.specs.Evidence.{unit}
+use Rattle.pm_vector.specs.Evidence.{unit}
 use Rattle.pm_geom.proofs.Facets.{dot-opposite}
 use Rattle.pm_geom.proofs.Polar.{cut_at, in_or_apart}
 use Rattle.pm_geom.proofs.Reduce.{extreme_as, same_modulo_as}

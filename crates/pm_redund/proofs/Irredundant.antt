@@ -8,7 +8,7 @@ use Rattle.pm_vector.specs.Cones.{InCone, InSpan, IsConeSet}
 use Rattle.pm_vector.specs.Rows.{HasCols, Row, opposite}
 use Rattle.pm_vector.specs.Bases.{row_at}
 use Rattle.pm_vector.proofs.Spans.{place_of}
-use Rattle.pm_elim.specs.Evidence.{IsBasisOf}
+use Rattle.pm_vector.specs.Evidence.{IsBasisOf}
 use Rattle.pm_geom.proofs.Extreme.{extreme, in_lines, like_generator, no_multiple}
 use Rattle.pm_geom.proofs.Polar.{cols_at, membership_decided}
 use Rattle.pm_geom.proofs.Reduce.{Parted, extreme_as, parted}

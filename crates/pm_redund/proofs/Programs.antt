@@ -7,7 +7,7 @@ use Rattle.pm_vector.proofs.Signs.{mul_cancel}
 use Rattle.pm_vector.specs.Cones.{InCone}
 use Rattle.pm_vector.specs.Numbers.{Ratio}
 use Rattle.pm_vector.specs.Rows.{HasCols, Row, dot, entry, ratio_at}
-use Rattle.pm_elim.specs.NullSpaces.{IsNull}
+use Rattle.pm_vector.specs.NullSpaces.{IsNull}
 use Rattle.pm_geom.proofs.Duality.{infeasible_has_no_point}
 use Rattle.pm_geom.proofs.Facets.{dot-opposite}
 use Rattle.pm_geom.proofs.Polar.{cols_at, cut_at, in_or_apart}

@@ -1,6 +1,7 @@
 -- The refusals of programs and eliminations, as refusals of thinning.
 use Rattle.pm_vector.specs.Rows.{Row}
-use Rattle.pm_elim.specs.Evidence.{IfWide, IsEvidence}
+use Rattle.pm_elim.specs.Refusals.{IfWide}
+use Rattle.pm_vector.specs.Evidence.{IsEvidence}
 use Rattle.pm_elim.specs.declared.evidence.ElimFail.{ElimFail}
 use Rattle.pm_elim.specs.declared.evidence.ElimFail.TheVariants as elimination
 use Rattle.pm_geom.specs.declared.evidence.Evidence.TheVariants.{E1, E2, E3, E4, E5Cells, E5Faces, E5Rays, E5Rows}
@@ -9,8 +10,7 @@ use Rattle.pm_incidence.specs.Thinning.{AreManyFacets, IsReductionFail, half_spa
 use Rattle.pm_incidence.specs.declared.fails.ThinFail.{ThinFail}
 use Rattle.pm_incidence.specs.declared.fails.ThinFail.TheVariants.{Many, Memory, Wide}
 use Rattle.pm_object_type.specs.declared.object_type.ObjectType.{ObjectType}
-use Rattle.pm_redund.specs.Redundancy.{IsProgramFail}
-use Rattle.pm_redund.specs.Redundancy.{AreManyThinPlaces, AreIrredundantPlaces, IsHalvesFail, IsRowsFail, IsRedundancyFail}
+use Rattle.pm_redund.specs.Redundancy.{AreIrredundantPlaces, AreManyThinPlaces, IsHalvesFail, IsProgramFail, IsRedundancyFail, IsRowsFail}
 use Rattle.pm_simplex.specs.Lineality.{MarkLines, line_group}
 use Rattle.std.proofs.Common.{inl, inr, refl}
 use Rattle.std.specs.List.{Contains}

@@ -4,8 +4,8 @@
 use Rattle.pm_vector.specs.Cones.{InCone}
 use Rattle.pm_vector.specs.Rows.{Row, opposite}
 use Rattle.pm_vector.specs.Bases.{row_at}
-use Rattle.pm_elim.specs.EliminationSteps.{EliminationStep}
-use Rattle.pm_elim.specs.Evidence.{IsBasisOf, IsEvidence, unit}
+use Rattle.pm_vector.specs.EliminationSteps.{EliminationStep}
+use Rattle.pm_vector.specs.Evidence.{IsBasisOf, IsEvidence, unit}
 use Rattle.pm_geom.specs.StatedOrder.{rows_marked}
 use Rattle.pm_geom.specs.declared.evidence.Evidence.TheVariants.{E1, E5Rows}
 use Rattle.pm_incidence.specs.Thinning.{AreManyFacets, half_spaces}

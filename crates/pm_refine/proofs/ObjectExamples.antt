@@ -1,7 +1,7 @@
 -- The examples of objects.
 use Rattle.pm_files.specs.Files.{SavedFile}
 use Rattle.pm_laws_normal_fans.specs.Fans.{Fan}
-use Rattle.pm_matrix.specs.FractionRows.{ArePrimitiveRowsOf}
+use Rattle.pm_fraction.specs.FractionRows.{ArePrimitiveRowsOf}
 use Rattle.pm_object.specs.declared.held.Condition.{Condition}
 use Rattle.pm_object.specs.declared.held.Condition.TheVariants as condition
 use Rattle.pm_refine.specs.CutRows.{fan_from}

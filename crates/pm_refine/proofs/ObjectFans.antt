@@ -4,7 +4,7 @@ use Rattle.pm_vector.proofs.Lists.{All_among, Among, all_from, all_at, among_All
 use Rattle.pm_vector.specs.Numbers.{Ratio}
 use Rattle.pm_vector.specs.Rows.{HasCols, Row}
 use Rattle.pm_laws_normal_fans.proofs.Places.{among_at, map_length, place_at}
-use Rattle.pm_matrix.specs.FractionRows.{ArePrimitiveRowsOf}
+use Rattle.pm_fraction.specs.FractionRows.{ArePrimitiveRowsOf}
 use Rattle.pm_object.proofs.KnownValues.{formed_is, rows_cols, rows_few}
 use Rattle.pm_object.specs.Known.{IsOfRows}
 use Rattle.pm_object_type.specs.declared.object_type.ObjectType.{ObjectType}

@@ -3,7 +3,7 @@ use Rattle.pm_vector.specs.Numbers.{Ratio}
 use Rattle.pm_vector.specs.Rows.{Row}
 use Rattle.pm_laws_normal_fans.specs.Fans.{Fan, IsFan}
 use Rattle.pm_laws_normal_fans.specs.Refinements.{AreAllRays, HasRefinedRays, Intersection}
-use Rattle.pm_matrix.specs.FractionRows.{ArePrimitiveRowsOf}
+use Rattle.pm_fraction.specs.FractionRows.{ArePrimitiveRowsOf}
 use Rattle.pm_object.specs.Known.{cols_at, rows_at, sets_at}
 use Rattle.pm_object.specs.State.{State}
 use Rattle.pm_props.specs.declared.property.PropId.TheVariants.{MaximalCones, Vertices}

@@ -7,7 +7,7 @@ use Rattle.pm_vector.specs.Numbers.{InRange}
 use Rattle.pm_vector.specs.Rows.{HasCols, Row, entry}
 use Rattle.pm_laws_normal_fans.proofs.Places.{map_length, place_at}
 use Rattle.pm_laws_normal_fans.specs.Refinements.{Intersection}
-use Rattle.pm_matrix.specs.Matrices.{IsFraction}
+use Rattle.pm_fraction.specs.Matrices.{IsFraction}
 use Rattle.pm_types.specs.Parts.{value_over}
 use Rattle.pm_object_type.specs.declared.object_type.ObjectType.TheVariants.{Fan}
 use Rattle.pm_props.specs.declared.property.PropId.TheVariants.{ConeAmbientDim, LinealitySpace, MaximalCones, Vertices}

@@ -1,7 +1,7 @@
 -- The tests of products decide what they are about.
 use Rattle.pm_vector.specs.Rows.{Row, dot}
 use Rattle.pm_vector.proofs.Lists.{All_among, Among, among_All, here, there}
-use Rattle.pm_elim.specs.NullSpaces.{IsNull}
+use Rattle.pm_vector.specs.NullSpaces.{IsNull}
 use Rattle.pm_geom.specs.Cones.{CutOut}
 use Rattle.pm_laws_normal_fans.specs.Refinements.{InHalfSpaces}
 use Rattle.pm_refine.specs.CutRows.{CutRows, are_inside, are_within, is_cut_out, is_null, is_positive, is_zero}

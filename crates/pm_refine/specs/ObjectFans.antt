@@ -3,7 +3,7 @@ use Rattle.std.specs.Prelude.{ℕ, ◌&&◌, ◌≡◌, Bool, false, true, not, 
 use Rattle.pm_vector.specs.Rows.{Row}
 use Rattle.pm_geom.specs.Faces.{ray}
 use Rattle.pm_laws_normal_fans.specs.Fans.{Fan}
-use Rattle.pm_matrix.specs.FractionRows.{ArePrimitiveRowsOf}
+use Rattle.pm_fraction.specs.FractionRows.{ArePrimitiveRowsOf}
 use Rattle.pm_object.specs.Known.{IsKnown, cols_at, rows_at, sets_at}
 use Rattle.pm_object.specs.State.{State}
 use Rattle.pm_object.specs.declared.held.Condition.{Condition}

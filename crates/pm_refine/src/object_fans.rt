@@ -1,6 +1,6 @@
 // The fan of an object, as lists of rows.
 
-ghost use Rattle.pm_matrix.specs.FractionRows.{ArePrimitiveRowsOf};
+ghost use Rattle.pm_fraction.specs.FractionRows.{ArePrimitiveRowsOf};
 ghost use Rattle.pm_object.specs.Known.{IsKnown, cols_at};
 ghost use Rattle.pm_object_type.specs.declared.object_type.ObjectType.TheVariants.{Fan};
 ghost use Rattle.pm_props.specs.declared.property.PropId.TheVariants.{LinealitySpace, MaximalCones, Vertices};
@@ -10,7 +10,7 @@ ghost use Rattle.pm_types.specs.Forms.{HasPrimitiveRow};
 ghost use Rattle.std.specs.Prelude.{All, IfOk, None, Some, length, map, true, ◌<◌, ◌≡◌, ◌≤◌};
 ghost use Rattle.pm_limits.specs.Limits.{most_rows};
 
-use pm_matrix::{Matrix, RowsFail};
+use pm_fraction::{Matrix, RowsFail};
 use pm_object::{Condition, Object, cols_at, matrix_at, sets_at};
 use pm_types::{ObjectType, PropId, Sets, Value};
 use pm_vector::Ints;

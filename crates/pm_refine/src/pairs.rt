@@ -13,9 +13,8 @@ use crate::fails::{RefineFail, not_made};
 use crate::keep::keep;
 use crate::refinement::Intersection;
 use pm_dd::{DdFail, Facets, Generators, add_copies, to_generators};
-use pm_elim::copies;
 use pm_object_type::ObjectType;
-use pm_vector::Ints;
+use pm_vector::{Ints, copies};
 use std::alloc::{AllocError, Global};
 
 /// The maximal ones among the intersections so far, and their lineality.

@@ -1,7 +1,7 @@
 // Whether an intersection is included in another, by the products of its rays with the rows that cut out the other.
 
 ghost use Rattle.pm_vector.specs.Rows.{HasCols, dot as dot_of};
-ghost use Rattle.pm_elim.specs.NullSpaces.{IsNull};
+ghost use Rattle.pm_vector.specs.NullSpaces.{IsNull};
 ghost use Rattle.pm_geom.specs.Cones.{CutOut};
 ghost use Rattle.pm_geom.specs.Evidence.{IsWideProduct};
 ghost use Rattle.pm_laws_normal_fans.specs.Refinements.{InHalfSpaces};

@@ -3,12 +3,12 @@ use Rattle.pm_vector.specs.Numbers.{Ratio}
 use Rattle.pm_vector.specs.Rows.{Row, Stands}
 use Rattle.pm_vector.proofs.Spans.{same_span, same_span_sym, same_span_trans}
 use Rattle.pm_vector.specs.Bases.{SameSpan}
-use Rattle.pm_elim.proofs.DotLaws.{null_of_span}
-use Rattle.pm_elim.specs.NullSpaces.{IsNullBasis}
+use Rattle.pm_vector.proofs.DotLaws.{null_of_span}
+use Rattle.pm_vector.specs.NullSpaces.{IsNullBasis}
 use Rattle.pm_types.specs.Things.{AreOrders, IsThing, Thing}
 use Rattle.pm_geom.specs.Things.{Orders}
 use Rattle.pm_object_type.specs.declared.object_type.ObjectType.TheVariants.{Fan}
-use Rattle.pm_matrix.specs.FractionRows.{ArePrimitiveRowsOf}
+use Rattle.pm_fraction.specs.FractionRows.{ArePrimitiveRowsOf}
 use Rattle.pm_relations.proofs.Spans.{hull_is_found, lineality_is_found, pair_spans, vertices_span}
 use Rattle.pm_relations.proofs.StandingSpans.{both_in, first_in, second_in, stand_for_same}
 use Rattle.pm_types.specs.Canonical.{IsEchelonBasisOf, Vanishing}

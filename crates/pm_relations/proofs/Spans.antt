@@ -8,8 +8,8 @@ use Rattle.pm_vector.specs.Rows.{HasCols, Row}
 use Rattle.pm_vector.proofs.Columns.{basis_is_independent}
 use Rattle.pm_vector.proofs.Spans.{same_span_trans}
 use Rattle.pm_vector.specs.Bases.{SameSpan}
-use Rattle.pm_elim.proofs.DotLaws.{dot_span_zero}
-use Rattle.pm_elim.specs.NullSpaces.{IsNull, IsNullBasis}
+use Rattle.pm_vector.proofs.DotLaws.{dot_span_zero}
+use Rattle.pm_vector.specs.NullSpaces.{IsNull, IsNullBasis}
 use Rattle.pm_geom.proofs.Facets.{vanishes_line}
 use Rattle.pm_geom.proofs.Lineality.{lineality_is_null}
 use Rattle.pm_geom.proofs.Spans.{generators_span, order_spans, vanishing_is_null}

@@ -15,7 +15,7 @@ ghost use Rattle.pm_limits.specs.Limits.{most_file_bytes};
 
 use pm_files::{FileObject, FileProgram, object_bytes};
 use pm_filing::has_label;
-use pm_matrix::Matrix;
+use pm_fraction::Matrix;
 use pm_object::{Excluded, Held, Object, Origin, Why, are_same};
 use pm_rules::Book;
 use pm_types::{PropId, PropSet, Value};

@@ -1,8 +1,8 @@
 -- Programs of matrices.
 use Rattle.pm_vector.specs.Numbers.{Ratio}
 use Rattle.pm_vector.specs.Rows.{HasCols, Row}
-use Rattle.pm_matrix.specs.FractionRows.{ArePrimitiveRowsOf}
-use Rattle.pm_matrix.specs.Matrices.{FractionMatrix, IsMatrix}
+use Rattle.pm_fraction.specs.FractionRows.{ArePrimitiveRowsOf}
+use Rattle.pm_fraction.specs.Matrices.{FractionMatrix, IsMatrix}
 use Rattle.pm_simplex.proofs.EvidenceLaws.{wide_as}
 use Rattle.pm_simplex.proofs.Points.{all_places}
 use Rattle.pm_simplex.specs.Answers.{ShowsProgram}

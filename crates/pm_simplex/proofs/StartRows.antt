@@ -2,7 +2,7 @@
 use Rattle.pm_vector.specs.Numbers.{Ratio}
 use Rattle.pm_vector.specs.Rows.{Row, ratio_at}
 use Rattle.pm_fraction.specs.Fractions.{ratio_of}
-use Rattle.pm_matrix.specs.Matrices.{IsFraction}
+use Rattle.pm_fraction.specs.Matrices.{IsFraction}
 use Rattle.pm_simplex.proofs.KeyColumns.{nat_eq_no}
 use Rattle.pm_simplex.proofs.Pushed.{count_pushed, pushed}
 use Rattle.pm_simplex.specs.Starts.{IsStartRow, body_at, help_of, start_at}

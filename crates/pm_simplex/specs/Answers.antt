@@ -2,7 +2,7 @@
 use Rattle.pm_vector.specs.Numbers.{Ratio}
 use Rattle.pm_vector.specs.Rows.{Row}
 use Rattle.pm_geom.specs.declared.evidence.Evidence.{Evidence}
-use Rattle.pm_matrix.specs.FractionRows.{ArePrimitiveRowsOf}
+use Rattle.pm_fraction.specs.FractionRows.{ArePrimitiveRowsOf}
 use Rattle.pm_simplex.specs.Evidence.{IsShownBy}
 use Rattle.pm_simplex.specs.ProgramLaws.{IsLeastAuxiliary}
 use Rattle.pm_simplex.specs.Running.{IsArranged, IsState, IsWithoutHelp}

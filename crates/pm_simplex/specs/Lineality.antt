@@ -3,7 +3,7 @@
 use Rattle.pm_vector.specs.Cones.{InCone}
 use Rattle.pm_vector.specs.Rows.{Row, opposite}
 use Rattle.pm_vector.specs.Bases.{row_at}
-use Rattle.pm_elim.specs.Evidence.{IsBasisOf}
+use Rattle.pm_vector.specs.Evidence.{IsBasisOf}
 use Rattle.pm_geom.specs.StatedOrder.{rows_marked}
 use Rattle.std.specs.List.{Contains}
 use Rattle.std.specs.Prelude.{Bool, IsTrue, List, [], false, get_or, length, true, ℕ, ◌++◌, ◌<◌, ◌↔◌, ◌∷◌, ◌≡◌}

@@ -2,7 +2,7 @@
 use Rattle.pm_vector.specs.Cones.{InCone}
 use Rattle.pm_vector.specs.Numbers.{Ratio}
 use Rattle.pm_vector.specs.Rows.{Row, entry, ratio_at}
-use Rattle.pm_elim.specs.Evidence.{unit}
+use Rattle.pm_vector.specs.Evidence.{unit}
 use Rattle.pm_vector.specs.Bases.{row_at}
 use Rattle.pm_fraction.specs.Arithmetic.{SumLeaves, opposite_of, product_of, sum_of}
 use Rattle.pm_fraction.specs.Fractions.{IsLowestTermsOf, IsTooWide}
@@ -10,7 +10,7 @@ use Rattle.pm_geom.specs.Evidence.{IsWideProduct}
 use Rattle.pm_geom.specs.Programs.{IsMaximum, IsOptimal}
 use Rattle.pm_geom.specs.declared.evidence.Evidence.TheVariants.{E4}
 use Rattle.pm_geom.specs.declared.evidence.Evidence.{Evidence}
-use Rattle.pm_matrix.specs.FractionRows.{IsPrimitiveRowOf}
+use Rattle.pm_fraction.specs.FractionRows.{IsPrimitiveRowOf}
 use Rattle.pm_simplex.specs.OptimalDuals.{IsDualOfDictionary}
 use Rattle.pm_simplex.specs.Senses.{objective_in}
 use Rattle.pm_simplex.specs.declared.sense.Sense.{Sense}

@@ -4,7 +4,7 @@ use Rattle.pm_vector.specs.Numbers.{Ratio}
 use Rattle.pm_vector.specs.Rows.{Row, entry, ratio_at}
 use Rattle.pm_vector.specs.Bases.{column, row_at}
 use Rattle.pm_fraction.specs.Fractions.{ratio_of}
-use Rattle.pm_matrix.specs.Matrices.{IsFraction}
+use Rattle.pm_fraction.specs.Matrices.{IsFraction}
 use Rattle.pm_programs.specs.Dictionaries.{row_of}
 use Rattle.pm_simplex.specs.Comparisons.{rows_of}
 use Rattle.pm_simplex.specs.States.{auxiliary}

@@ -1,7 +1,7 @@
 // The greatest value of an objective.
 
 ghost use Rattle.pm_vector.specs.Rows.{HasCols};
-ghost use Rattle.pm_matrix.specs.FractionRows.{ArePrimitiveRowsOf};
+ghost use Rattle.pm_fraction.specs.FractionRows.{ArePrimitiveRowsOf};
 ghost use Rattle.pm_dual.specs.Answers.{IsAnswer};
 ghost use Rattle.pm_simplex.specs.Answers.{IsAnswerOf, ShowsProgram, ShowsProgramOf};
 ghost use Rattle.pm_simplex.specs.OptimalDuals.{HasDictionaryDual};
@@ -14,8 +14,7 @@ use crate::fails::LpFail;
 use crate::layout::Layout;
 use crate::program::by_dictionaries;
 use pm_dual::{LpAnswer, quick_answer};
-use pm_fraction::Fraction;
-use pm_matrix::{Matrix, RowsFail};
+use pm_fraction::{Fraction, Matrix, RowsFail};
 use pm_vector::Ints;
 use std::alloc::Global;
 

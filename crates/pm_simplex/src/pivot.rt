@@ -4,7 +4,7 @@ ghost use Rattle.pm_vector.specs.Numbers.{InRangeRatio, Ratio};
 ghost use Rattle.pm_vector.specs.Rows.{ratio_at};
 ghost use Rattle.pm_fraction.specs.Arithmetic.{quotient_of};
 ghost use Rattle.pm_fraction.specs.Fractions.{IsLowestTermsOf, IsTooWide};
-ghost use Rattle.pm_matrix.specs.Matrices.{IsFraction};
+ghost use Rattle.pm_fraction.specs.Matrices.{IsFraction};
 ghost use Rattle.pm_programs.specs.Dictionaries.{IsNewElsewhere, IsNewHere, IsOppositeQuotient, IsPivoted, IsProductSum, IsWideElsewhere, IsWideHere, IsWideOutside, HasPlaces, AllFit, IsWidePlace, ProductSumIsWide, at, row_of};
 ghost use Rattle.pm_simplex.specs.Fails.{IfWideAt, IfWidePlace};
 ghost use Rattle.std.specs.Prelude.{All, IfErr, IfOk, IsErrOf, OnErr, OnOk, [], length, map, pos, slice_index_or, ◌<◌, ◌≡◌, ◌≢◌, ℕ};

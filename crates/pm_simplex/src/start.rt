@@ -4,7 +4,7 @@ ghost use Rattle.pm_vector.specs.Numbers.{InRange};
 ghost use Rattle.pm_vector.specs.Rows.{HasCols, entry, ratio_at};
 ghost use Rattle.pm_vector.specs.Bases.{column, row_at};
 ghost use Rattle.pm_fraction.specs.Fractions.{ratio_of};
-ghost use Rattle.pm_matrix.specs.Matrices.{IsFraction};
+ghost use Rattle.pm_fraction.specs.Matrices.{IsFraction};
 ghost use Rattle.pm_simplex.specs.Starts.{IsStart, IsStartRow, body_at, help_of, own_column, start_at};
 ghost use Rattle.pm_simplex.specs.States.{auxiliary};
 ghost use Rattle.pm_programs.specs.Dictionaries.{row_of};

@@ -2,9 +2,9 @@
 
 use pm_build::{BuildFail, Condition};
 use pm_elim::{DualFail, ElimFail};
+use pm_fraction::RowsFail;
 use pm_json::ValueFail;
 use pm_lines::{LineReader, LinesFail};
-use pm_matrix::RowsFail;
 use pm_store::{MemSink, MemSource, MemStore, ReadFail, Store, read_up_to, write_all};
 use std::alloc::Global;
 use std::process::Abort;

@@ -10,8 +10,8 @@ use Rattle.pm_fraction.proofs.Reduced.{bezout_of, same_reduced}
 use Rattle.pm_fraction.specs.declared.error.NumError.TheVariants.{Wide, ZeroDenominator}
 use Rattle.pm_fraction.specs.declared.error.NumError.{NumError}
 use Rattle.pm_fraction.specs.Fractions.{IsLowestTermsOf, IsTooWide, ratio_of}
-use Rattle.pm_matrix.specs.FractionRows.{IsLeastDenominator, numerator_over}
-use Rattle.pm_matrix.specs.Matrices.{IsFraction}
+use Rattle.pm_fraction.specs.FractionRows.{IsLeastDenominator, numerator_over}
+use Rattle.pm_fraction.specs.Matrices.{IsFraction}
 use Rattle.pm_types.specs.Forms.{HasPrimitiveRow}
 use Rattle.pm_types.specs.Views.{over_one}
 use Rattle.std.proofs.Common.{ap, arith, below_more, inl, inr, refl, subst, suc, sym, zero, ◌∙◌}

@@ -2,7 +2,7 @@
 use Rattle.pm_vector.specs.Numbers.{InRange, Ratio}
 use Rattle.pm_vector.specs.Rows.{Row}
 use Rattle.pm_geom.proofs.Taken.{taken_push}
-use Rattle.pm_matrix.specs.Matrices.{FractionMatrix}
+use Rattle.pm_fraction.specs.Matrices.{FractionMatrix}
 use Rattle.pm_types.specs.Views.{ratios}
 use Rattle.std.proofs.Common.{ap, get_or, map, subst, sym, take, ◌++◌, ◌+◌, ◌<◌, ◌∙◌}
 use Rattle.std.proofs.lemmas.List.Elements.{All-push}

@@ -2,12 +2,12 @@
 use Rattle.pm_vector.proofs.DivisorLaws.{common_divisor}
 use Rattle.pm_vector.specs.Numbers.{InRange, Ratio}
 use Rattle.pm_vector.specs.Rows.{ratio_at}
-use Rattle.pm_matrix.proofs.Denominators.{least_unique}
-use Rattle.pm_matrix.proofs.MultipleLaws.{IsLcm-from_gcd, gcd_positive}
-use Rattle.pm_matrix.specs.FractionRows.{IsLeastDenominator}
-use Rattle.pm_matrix.specs.Multiples.{IsLcm}
-use Rattle.pm_matrix.specs.Wideness.{IsFirstWide, IsFirstWideDenominator, IsFirstWideNumerator, IsWideRow, NumeratorsStay, RowStays, RowsStay}
-use Rattle.pm_matrix.specs.declared.fails.RowsFail.TheVariants.{Wide}
+use Rattle.pm_fraction.proofs.Denominators.{least_unique}
+use Rattle.pm_fraction.proofs.MultipleLaws.{IsLcm-from_gcd, gcd_positive}
+use Rattle.pm_fraction.specs.FractionRows.{IsLeastDenominator}
+use Rattle.pm_fraction.specs.Multiples.{IsLcm}
+use Rattle.pm_fraction.specs.Wideness.{IsFirstWide, IsFirstWideDenominator, IsFirstWideNumerator, IsWideRow, NumeratorsStay, RowStays, RowsStay}
+use Rattle.pm_fraction.specs.declared.fails.RowsFail.TheVariants.{Wide}
 use Rattle.pm_props.specs.declared.property.PropId.TheVariants.{F2Vector, LinearObjective, SiteHeights, Sites}
 use Rattle.pm_props.specs.declared.property.PropId.{PropId}
 use Rattle.pm_types.specs.Forms.{HasPrimitiveRow, is_column_count, is_matrix_form, is_matrix_of, is_row_of_entries}

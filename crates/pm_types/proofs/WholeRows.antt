@@ -2,8 +2,8 @@
 use Rattle.pm_vector.proofs.Ring.{mul_one}
 use Rattle.pm_vector.specs.Numbers.{InRange}
 use Rattle.pm_vector.specs.Rows.{HasCols, Row, entry, ratio_at}
-use Rattle.pm_matrix.specs.FractionRows.{IsLeastDenominator, numerator_over}
-use Rattle.pm_matrix.specs.Matrices.{IsFraction}
+use Rattle.pm_fraction.specs.FractionRows.{IsLeastDenominator, numerator_over}
+use Rattle.pm_fraction.specs.Matrices.{IsFraction}
 use Rattle.pm_types.specs.Forms.{HasPrimitiveRow, is_row_of_entries}
 use Rattle.pm_types.specs.Views.{over_one, ratios}
 use Rattle.std.proofs.Common.{ap, arith, refl, suc, sym, true, zero, ◌∙◌}

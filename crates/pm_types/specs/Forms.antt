@@ -5,9 +5,9 @@ use Rattle.pm_vector.specs.Numbers.{Ratio}
 use Rattle.pm_object_type.specs.declared.object_type.ObjectType.{ObjectType}
 use Rattle.pm_object_type.specs.declared.object_type.ObjectType.TheVariants.{Polytope}
 use Rattle.pm_geom.specs.Graphs.{holds}
-use Rattle.pm_matrix.specs.FractionRows.{IsLeastDenominator}
-use Rattle.pm_matrix.specs.Matrices.{IsFraction}
-use Rattle.pm_matrix.specs.Wideness.{DenominatorsStay, NumeratorsStay}
+use Rattle.pm_fraction.specs.FractionRows.{IsLeastDenominator}
+use Rattle.pm_fraction.specs.Matrices.{IsFraction}
+use Rattle.pm_fraction.specs.Wideness.{DenominatorsStay, NumeratorsStay}
 use Rattle.pm_props.specs.Properties.{is_ambient, is_columned, is_of_matrices, is_of_sets, is_of_counts, is_of_edges, is_of_lattices, is_of_truth_values, is_of_whole_numbers, row, value_kind}
 use Rattle.pm_types.specs.Values.{PropertyValue, matrix, sets, whole, truth, counts, edges, lattice, extended, finite}
 use Rattle.pm_props.specs.declared.property.PropId.{PropId}

@@ -1,7 +1,7 @@
 -- What a value is, where one form of it is meant, and rows as a value.
 use Rattle.std.specs.Prelude.{ℕ, Bool, false, List, [], ◌∷◌, Option, None, Some}
 use Rattle.pm_vector.specs.Numbers.{Ratio}
-use Rattle.pm_matrix.specs.Matrices.{FractionMatrix}
+use Rattle.pm_fraction.specs.Matrices.{FractionMatrix}
 use Rattle.pm_types.specs.Values.{IndexSets, PropertyValue, matrix, sets, truth}
 
 -- the truth value that is there, if it is one

@@ -8,8 +8,7 @@ ghost use Rattle.pm_vector.specs.Numbers.{InRange};
 ghost use Rattle.pm_vector.specs.Rows.{HasCols, entry};
 ghost use Rattle.std.specs.Prelude.{All, IfOk, OnOk, length, map, pos, ◌<ℤ◌, ◌<◌, ◌≡◌};
 
-use pm_fraction::Fraction;
-use pm_matrix::{Matrix, MatrixFail};
+use pm_fraction::{Fraction, Matrix, MatrixFail};
 use pm_vector::Ints;
 use std::alloc::{AllocError, Global};
 

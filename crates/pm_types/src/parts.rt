@@ -6,7 +6,7 @@ ghost use Rattle.std.specs.Option.{option_map};
 ghost use Rattle.std.specs.Prelude.{Some, ◌≡◌};
 
 use crate::value::{Sets, Value};
-use pm_matrix::Matrix;
+use pm_fraction::Matrix;
 
 impl Value {
     /// The matrix, where the value is one.

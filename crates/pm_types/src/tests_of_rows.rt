@@ -8,8 +8,7 @@ ghost use Rattle.std.specs.Prelude.{◌≡◌};
 
 use crate::number::Number;
 use crate::value::Value;
-use pm_fraction::Fraction;
-use pm_matrix::Matrix;
+use pm_fraction::{Fraction, Matrix};
 use pm_props::{ObjectType, PropId, RowTest};
 
 /// Whether each row of a matrix passes the tests of rows of its property.

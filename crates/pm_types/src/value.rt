@@ -6,8 +6,8 @@ ghost use Rattle.std.specs.Prelude.{IfOk, List, OnErr, OnOk, [], length, map, â„
 
 use crate::lattice::Lattice;
 use crate::number::Number;
+use pm_fraction::Matrix;
 use pm_geom::copy_sets;
-use pm_matrix::Matrix;
 use std::alloc::{AllocError, Global};
 use std::marker::Model;
 

@@ -27,3 +27,5 @@ pub mod Turns
 pub mod WideSums
 pub mod WrittenQuotients
 pub mod WideExamples
+pub mod Independent
+pub mod DotLaws

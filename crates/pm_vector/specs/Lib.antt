@@ -13,3 +13,9 @@ pub mod Magnitudes
 pub mod WideInts
 pub mod Multiples
 pub mod WideExamples
+pub mod Steps
+pub mod EliminationSteps
+pub mod Rounds
+pub mod Evidence
+pub mod NullSpaces
+pub mod Enlarging

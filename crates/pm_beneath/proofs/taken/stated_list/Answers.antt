@@ -4,7 +4,7 @@ use Rattle.pm_beneath.proofs.PlaceOutcomes.{marks_many, stated_made}
 use Rattle.pm_beneath.proofs.taken.stated_list.Goals as goal
 use Rattle.pm_dd.proofs.LeadingLaws.{rest_of}
 use Rattle.pm_dd.specs.Fronts.{both_signs}
-use Rattle.pm_elim.specs.Enlarging.{MarkEnlarging}
+use Rattle.pm_vector.specs.Enlarging.{MarkEnlarging}
 use Rattle.pm_dd.proofs.HullLaws.{double_list_made, list_cols, list_length}
 use Rattle.std.proofs.Common.{ap, arith, inl, inr, length, ◌*◌, ◌++◌, ◌≡◌, ◌≤◌, ◌∙◌}
 use Rattle.std.proofs.lemmas.Result.{err_from_is_err_and}

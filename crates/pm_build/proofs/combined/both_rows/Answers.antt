@@ -2,7 +2,7 @@ use Rattle.pm_build.proofs.Read.{both_made}
 use Rattle.pm_build.proofs.combined.both_rows.Goals as goal
 use Rattle.pm_object.specs.Known.{held_rows}
 use Rattle.pm_build.specs.Objects.{padded, spread}
-use Rattle.pm_matrix.specs.Matrices.{FractionMatrix}
+use Rattle.pm_fraction.specs.Matrices.{FractionMatrix}
 use Rattle.std.proofs.Common.{ap, map, ◌++◌, ◌-◌, ◌∙◌}
 
 pub returns-clause-rows : goal.returns-clause-rows

@@ -1,8 +1,8 @@
 use Rattle.pm_build.proofs.PointLaws.{form_lengths, points_cols, points_up}
 use Rattle.pm_build.proofs.summands.sum_points.Goals as goal
 use Rattle.pm_build.specs.Points.{far, points}
-use Rattle.pm_matrix.specs.FractionRows.{ArePrimitiveRowsOf}
-use Rattle.pm_matrix.specs.Matrices.{FractionMatrix}
+use Rattle.pm_fraction.specs.FractionRows.{ArePrimitiveRowsOf}
+use Rattle.pm_fraction.specs.Matrices.{FractionMatrix}
 use Rattle.pm_object.specs.Known.{cols_at, held_rows, rows_at}
 use Rattle.pm_props.specs.declared.property.PropId.TheVariants.{Vertices}
 use Rattle.pm_types.specs.Parts.{cols_over}

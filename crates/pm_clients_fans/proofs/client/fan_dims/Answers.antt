@@ -5,7 +5,7 @@ use Rattle.pm_client.proofs.Lost.{failed_lost}
 use Rattle.pm_clients_fans.proofs.Fans.{fan_view}
 use Rattle.pm_clients_fans.proofs.FoundFans.{dims_sound, fails_rightly, rows_cols}
 use Rattle.pm_client.specs.Sound.{EliminatesRows, FailsRightly, cone_rows, eliminated_by}
-use Rattle.pm_elim.specs.declared.evidence.ElimList.TheVariants as list
+use Rattle.pm_vector.specs.declared.evidence.ElimList.TheVariants as list
 use Rattle.pm_clients_fans.proofs.client.fan_dims.Goals as goal
 use Rattle.pm_object.specs.Reading.{IsView, ViewSeen}
 use Rattle.pm_clients_fans.specs.Cones.{ConesStay, ConesStayBy, ReadsCones, ReadsLostCone}

@@ -1,6 +1,6 @@
 use Rattle.pm_clients_geom.proofs.PointLaws.{with_first}
 use Rattle.pm_clients_geom.proofs.points.has_point.Goals as goal
-use Rattle.pm_elim.specs.Evidence.{unit}
+use Rattle.pm_vector.specs.Evidence.{unit}
 use Rattle.pm_incidence.proofs.Described.{half_cols}
 use Rattle.pm_object_type.specs.declared.object_type.ObjectType.TheVariants.{Polytope}
 use Rattle.std.proofs.Common.{arith}

@@ -3,7 +3,7 @@ use Rattle.std.proofs.lemmas.Result.{err_from_is_err_and}
 use Rattle.pm_client.proofs.Failing.{eliminates_in, fails_by_list}
 use Rattle.pm_family.proofs.Failing.{takes_alone}
 use Rattle.pm_client.specs.Sound.{EliminatesExtended, FailsRightly}
-use Rattle.pm_elim.specs.declared.evidence.ElimList.TheVariants as elimination_list
+use Rattle.pm_vector.specs.declared.evidence.ElimList.TheVariants as elimination_list
 use Rattle.pm_client.proofs.Lost.{failed_lost}
 use Rattle.pm_clients_geom.specs.Lists.{IsLostExtendedList}
 use Rattle.pm_elim.specs.Lost.{IsLostOnExtended}

@@ -6,7 +6,7 @@ use Rattle.pm_clients_lp.proofs.FoundPrograms.{rows_sound}
 use Rattle.pm_clients_lp.proofs.StandardKinds.{has_optimum, row_sources, rows_found, rows_read}
 use Rattle.pm_clients_lp.proofs.halves.value_from_rows.Goals as goal
 use Rattle.pm_clients_lp.specs.Clients.{FailsBy}
-use Rattle.pm_elim.specs.Evidence.{unit}
+use Rattle.pm_vector.specs.Evidence.{unit}
 use Rattle.pm_incidence.proofs.Described.{half_cols}
 use Rattle.pm_object_type.specs.declared.object_type.ObjectType.TheVariants.{Polytope}
 use Rattle.pm_props.specs.declared.property.PropId.TheVariants.{Equations, Inequalities, LinearObjective}

@@ -1,5 +1,5 @@
 use Rattle.pm_vector.specs.Rows.{entry}
-use Rattle.pm_elim.specs.Evidence.{unit}
+use Rattle.pm_vector.specs.Evidence.{unit}
 use Rattle.pm_dd.specs.Fronts.{HalfSpaces}
 use Rattle.pm_geom.specs.Generators.{AreGenerators}
 use Rattle.pm_dd.proofs.HullLaws.{empty_generators, no_point, proper_generators}

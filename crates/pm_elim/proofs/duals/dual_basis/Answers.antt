@@ -1,7 +1,8 @@
 use Rattle.pm_vector.specs.Cones.{IsIndependent}
 use Rattle.pm_elim.proofs.EvidenceLaws.{wide_is_extended_evidence}
-use Rattle.pm_elim.specs.Evidence.{IfWide, IsEvidence}
-use Rattle.pm_elim.specs.EliminationSteps.{EliminationStep}
+use Rattle.pm_elim.specs.Refusals.{IfWide}
+use Rattle.pm_vector.specs.Evidence.{IsEvidence}
+use Rattle.pm_vector.specs.EliminationSteps.{EliminationStep}
 use Rattle.pm_elim.specs.declared.evidence.DualFail.{DualFail}
 use Rattle.pm_elim.specs.declared.evidence.DualFail.TheVariants.{Dependent, Memory as DualMemory, Wide as DualWide}
 use Rattle.pm_elim.specs.declared.evidence.ElimFail.{ElimFail}

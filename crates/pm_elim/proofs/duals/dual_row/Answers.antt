@@ -3,8 +3,9 @@ use Rattle.pm_elim.proofs.BasisLaws.{row_length}
 use Rattle.pm_elim.proofs.DualLaws.{contained_pivot, is_dual, pivot_contained, some_new}
 use Rattle.pm_elim.proofs.duals.dual_row.Goals as goal
 use Rattle.pm_elim.specs.Duals.{IfDependent, IfDualWide, dual_fail_of}
-use Rattle.pm_elim.specs.EliminationSteps.{EliminationStep}
-use Rattle.pm_elim.specs.Evidence.{IfWide, IsEvidence}
+use Rattle.pm_vector.specs.EliminationSteps.{EliminationStep}
+use Rattle.pm_elim.specs.Refusals.{IfWide}
+use Rattle.pm_vector.specs.Evidence.{IsEvidence}
 use Rattle.pm_elim.specs.declared.evidence.ElimFail.{ElimFail}
 use Rattle.pm_elim.specs.declared.evidence.ElimFail.TheVariants.{Memory, Wide}
 use Rattle.std.proofs.Common.{arith, refl, length, ◌<◌, ◌≡◌}

@@ -3,7 +3,7 @@ use Rattle.std.proofs.Common.{arith, length, ◌+◌, ◌<◌, ◌≡◌}
 use Rattle.std.proofs.lemmas.List.Edits.{length-remove}
 use Rattle.pm_elim.proofs.NullLaws.{null_basis_of_span}
 use Rattle.pm_elim.proofs.duals.null_without.Goals as goal
-use Rattle.pm_elim.specs.NullSpaces.{IsNullBasis}
+use Rattle.pm_vector.specs.NullSpaces.{IsNullBasis}
 use Rattle.std.proofs.lemmas.Result.{IfOk-weaker, err_from_is_err_and}
 use Rattle.std.specs.Prelude.{remove}
 

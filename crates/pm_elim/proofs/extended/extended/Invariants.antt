@@ -1,6 +1,6 @@
 use Rattle.pm_vector.specs.Bases.{row_at}
 use Rattle.pm_elim.proofs.extended.extended.Given as goal
-use Rattle.pm_elim.specs.Evidence.{column_of, unit}
+use Rattle.pm_vector.specs.Evidence.{column_of, unit}
 use Rattle.std.proofs.Common.{length, ◌++◌, ◌<◌, ◌≡◌, ℕ}
 
 abbrev pub invariant-loop-i : goal.invariant-loop-i

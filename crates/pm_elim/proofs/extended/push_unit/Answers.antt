@@ -2,7 +2,7 @@ use Rattle.pm_elim.proofs.ExtendedLaws.{unit_more, unit_one, unit_zero}
 use Rattle.pm_elim.proofs.extended.push_unit.Goals as goal
 use Rattle.pm_elim.proofs.extended.push_unit.Goals.{else-k-i, then-k-i}
 use Rattle.pm_vector.specs.Rows.{entry}
-use Rattle.pm_elim.specs.Evidence.{unit}
+use Rattle.pm_vector.specs.Evidence.{unit}
 use Rattle.std.proofs.Common.{arith, pos, sym, ◌<◌, ◌≡◌, ◌∙◌}
 
 pub loop-k-preserved : goal.loop-k-preserved

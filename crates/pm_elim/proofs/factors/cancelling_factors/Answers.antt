@@ -1,5 +1,5 @@
 use Rattle.pm_elim.proofs.StepLaws.{cancels, p_positive}
-use Rattle.pm_elim.specs.Steps.{IsFactors}
+use Rattle.pm_vector.specs.Steps.{IsFactors}
 use Rattle.pm_elim.proofs.FactorLaws.{divisor_in_range, divisor_not_zero, quotients_are_factors}
 use Rattle.pm_elim.proofs.factors.cancelling_factors.Goals as goal
 use Rattle.pm_elim.proofs.factors.cancelling_factors.Goals.{After-gcd-divisor}

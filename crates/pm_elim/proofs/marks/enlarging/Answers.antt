@@ -3,7 +3,7 @@ use Rattle.pm_elim.proofs.BasisLaws.{BasisSoFar-more, fail_is_wide, fail_list, r
 use Rattle.pm_elim.proofs.EnlargingLaws.{MarkSoFar-more, mark_is_right}
 use Rattle.pm_elim.proofs.EvidenceLaws.{no_evidence_on_rows, wide_is_evidence}
 use Rattle.pm_elim.proofs.marks.enlarging.Goals as goal
-use Rattle.pm_elim.specs.declared.evidence.ElimList.TheVariants.{Rows}
+use Rattle.pm_vector.specs.declared.evidence.ElimList.TheVariants.{Rows}
 use Rattle.std.proofs.Common.{arith, length, take, ◌<◌, ◌∙◌, ◌≡◌}
 use Rattle.std.proofs.lemmas.Bool.{lt-ltb, ltb-true}
 use Rattle.std.proofs.lemmas.List.{get_or_read}

@@ -3,7 +3,7 @@ use Rattle.pm_elim.proofs.ExtendedLaws.{extended_cols, extended_unique}
 use Rattle.pm_elim.proofs.PrefixLaws.{at_most_columns}
 use Rattle.pm_elim.proofs.nulls.extended_basis.Goals as goal
 use Rattle.pm_elim.proofs.nulls.extended_basis.Goals.{After-len}
-use Rattle.pm_elim.specs.Evidence.{IsExtended}
+use Rattle.pm_vector.specs.Evidence.{IsExtended}
 use Rattle.std.proofs.Common.{arith, length, ◌≡◌}
 
 count : (c : After-len) → c.len.result ≡ length c.args.basis.now.rows.items

@@ -1,9 +1,9 @@
-use Rattle.pm_elim.specs.EliminationSteps.{EliminationStep}
-use Rattle.pm_elim.specs.Evidence.{IfWide}
+use Rattle.pm_vector.specs.EliminationSteps.{EliminationStep}
+use Rattle.pm_elim.specs.Refusals.{IfWide}
 use Rattle.pm_elim.specs.declared.evidence.ElimFail.{ElimFail}
 use Rattle.pm_elim.specs.declared.evidence.ElimFail.TheVariants.{Memory, Wide}
-use Rattle.pm_elim.specs.declared.evidence.ElimList.{ElimList}
-use Rattle.pm_elim.specs.declared.evidence.ElimList.TheVariants.{Extended, Rows}
+use Rattle.pm_vector.specs.declared.evidence.ElimList.{ElimList}
+use Rattle.pm_vector.specs.declared.evidence.ElimList.TheVariants.{Extended, Rows}
 use Rattle.std.proofs.lemmas.Result.{err_from_is_err_and}
 use Rattle.pm_vector.proofs.Rank.{basis_gives_rank, rank_is_determined}
 use Rattle.pm_elim.proofs.EvidenceLaws.{no_evidence_on_extended, wide_is_extended_evidence}

@@ -1,6 +1,6 @@
 use Rattle.pm_vector.specs.Bases.{row_at}
 use Rattle.pm_elim.proofs.older.wide_older.Goals as goal
-use Rattle.pm_elim.specs.Steps.{StepStays}
+use Rattle.pm_vector.specs.Steps.{StepStays}
 use Rattle.std.proofs.Common.{arith, below_more, length, ◌<◌, ◌≡◌, ℕ}
 use Rattle.std.proofs.lemmas.List.{get_or_read}
 

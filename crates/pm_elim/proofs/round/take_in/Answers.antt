@@ -3,7 +3,7 @@ use Rattle.pm_elim.proofs.PivotLaws.{pivot_length}
 use Rattle.pm_elim.proofs.RoundLaws.{at_most_one_more, inside_unless_zero, is_new_row, never_wide_new, never_wide_zero, none_more, rest_length, round_of_next, round_of_some, span_unless_zero, span_with_new, still}
 use Rattle.pm_elim.proofs.round.take_in.Goals as goal
 use Rattle.pm_elim.proofs.round.take_in.Goals.{After-pivot_row-new}
-use Rattle.pm_elim.specs.Rounds.{IsNewRow}
+use Rattle.pm_vector.specs.Rounds.{IsNewRow}
 use Rattle.std.proofs.Common.{arith, length, refl, ◌≡◌, ◌∙◌}
 use Rattle.std.proofs.lemmas.Result.{err_from_is_err_and}
 

@@ -1,5 +1,5 @@
 use Rattle.pm_elim.proofs.wide_bases.wide_basis.Given as goal
-use Rattle.pm_elim.specs.Evidence.{IsBasisOf}
+use Rattle.pm_vector.specs.Evidence.{IsBasisOf}
 use Rattle.std.proofs.Common.{take}
 
 abbrev pub invariant-loop-i : goal.invariant-loop-i

@@ -4,7 +4,7 @@ use Rattle.pm_elim.proofs.BasisLaws.{with_cols}
 use Rattle.pm_elim.proofs.ReductionLaws.{reduced_modulo, reduced_zero}
 use Rattle.pm_elim.proofs.wide_modulo.wide_reduced.Goals as goal
 use Rattle.pm_elim.proofs.wide_modulo.wide_reduced.Goals.{After-deref-2, In_ok-rest}
-use Rattle.pm_elim.specs.Steps.{ReducedBy}
+use Rattle.pm_vector.specs.Steps.{ReducedBy}
 use Rattle.std.proofs.Common.{ap, length}
 
 -- the basis has as many entries in a row as the row

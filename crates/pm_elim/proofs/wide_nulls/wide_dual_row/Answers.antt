@@ -2,7 +2,7 @@ use Rattle.pm_vector.specs.Bases.{column, row_at}
 use Rattle.pm_elim.proofs.DualCounts.{dependent_of_none_new}
 use Rattle.pm_elim.proofs.DualLaws.{contained_pivot, is_dual, pivot_contained}
 use Rattle.pm_elim.proofs.wide_nulls.wide_dual_row.Goals as goal
-use Rattle.pm_elim.specs.NullSpaces.{IsNullBasis}
+use Rattle.pm_vector.specs.NullSpaces.{IsNullBasis}
 use Rattle.std.proofs.Common.{arith, inl, length, ◌<◌, ◌≡◌}
 use Rattle.std.proofs.lemmas.List.{get_or_read}
 use Rattle.std.specs.Prelude.{remove}

@@ -3,8 +3,8 @@ use Rattle.pm_elim.proofs.PivotLaws.{pivot_length}
 use Rattle.pm_elim.proofs.RoundLaws.{inside_unless_zero, is_new_row, rest_length, span_unless_zero, span_with_new}
 use Rattle.pm_elim.proofs.wide_rounds.taken_in.Goals as goal
 use Rattle.pm_elim.proofs.wide_rounds.taken_in.Goals.{After-pivot_row-new}
-use Rattle.pm_elim.specs.Rounds.{IsNewRow}
-use Rattle.pm_elim.specs.Steps.{ReducedBy}
+use Rattle.pm_vector.specs.Rounds.{IsNewRow}
+use Rattle.pm_vector.specs.Steps.{ReducedBy}
 use Rattle.std.proofs.Common.{arith, length, refl, ◌≡◌, ◌∙◌}
 
 pub returns-in_default-clause-span : goal.returns-in_default-clause-span

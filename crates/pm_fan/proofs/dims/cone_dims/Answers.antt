@@ -1,6 +1,6 @@
 use Rattle.pm_vector.proofs.Lists.{among_All}
-use Rattle.pm_elim.specs.Evidence.{NoEvidence}
-use Rattle.pm_elim.specs.declared.evidence.ElimList.TheVariants.{Rows}
+use Rattle.pm_vector.specs.Evidence.{NoEvidence}
+use Rattle.pm_vector.specs.declared.evidence.ElimList.TheVariants.{Rows}
 use Rattle.pm_fan.proofs.Turns.{cone_cols, cone_length, dims_next, rank_few, set_among, sets_more}
 use Rattle.pm_fan.proofs.dims.cone_dims.Goals as goal
 use Rattle.pm_fan.specs.Dimensions.{cone_rows}

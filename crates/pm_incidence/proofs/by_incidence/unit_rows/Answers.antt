@@ -1,5 +1,5 @@
 use Rattle.pm_bits.proofs.Counts.{range_with_len-add}
-use Rattle.pm_elim.specs.Evidence.{unit}
+use Rattle.pm_vector.specs.Evidence.{unit}
 use Rattle.pm_incidence.proofs.by_incidence.unit_rows.Goals as goal
 use Rattle.std.proofs.Common.{arith, refl, ◌+◌, ◌≡◌}
 use Rattle.std.proofs.lemmas.List.{map-append}

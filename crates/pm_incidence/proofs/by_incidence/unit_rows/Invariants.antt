@@ -1,4 +1,4 @@
-use Rattle.pm_elim.specs.Evidence.{unit}
+use Rattle.pm_vector.specs.Evidence.{unit}
 use Rattle.pm_incidence.proofs.by_incidence.unit_rows.Given as goal
 use Rattle.std.proofs.Common.{map, ◌≡◌}
 use Rattle.std.specs.List.{range_with_len}

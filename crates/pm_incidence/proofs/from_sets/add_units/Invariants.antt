@@ -1,5 +1,5 @@
 -- the unit rows of the columns that are left follow
-use Rattle.pm_elim.specs.Evidence.{unit}
+use Rattle.pm_vector.specs.Evidence.{unit}
 use Rattle.pm_incidence.proofs.from_sets.add_units.Given as goal
 use Rattle.std.proofs.Common.{drop, map, ◌++◌, ◌≡◌}
 

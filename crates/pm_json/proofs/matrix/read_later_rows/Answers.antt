@@ -2,7 +2,7 @@
 use Rattle.std.proofs.Common.{add-one, ap, arith, drop, drop-cons, length, suc, sym, ◌∙◌, ◌<◌, ◌≡◌, ◌++◌, ◌∷◌, Ok, []}
 use Rattle.pm_json.proofs.Readings.{later_rows_from-item}
 use Rattle.pm_json.specs.Readings.{later_row_from, later_rows_from, with_front}
-use Rattle.pm_matrix.specs.Matrices.{FractionMatrix}
+use Rattle.pm_fraction.specs.Matrices.{FractionMatrix}
 use Rattle.serde_json.specs.View.{items_view, view}
 use Rattle.pm_json.proofs.matrix.read_later_rows.Goals as goal
 use Rattle.pm_limits.specs.Limits.{most_rows}

@@ -1,4 +1,4 @@
-use Rattle.pm_elim.specs.NullSpaces.{IsNull}
+use Rattle.pm_vector.specs.NullSpaces.{IsNull}
 use Rattle.pm_refine.proofs.products.is_null.Given as goal
 use Rattle.std.proofs.Common.{take}
 

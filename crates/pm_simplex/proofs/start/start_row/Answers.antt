@@ -1,5 +1,5 @@
 use Rattle.pm_fraction.specs.Fractions.{ratio_of}
-use Rattle.pm_matrix.specs.Matrices.{IsFraction}
+use Rattle.pm_fraction.specs.Matrices.{IsFraction}
 use Rattle.pm_simplex.proofs.Pushed.{count_pushed, pushed}
 use Rattle.pm_simplex.proofs.StartRows.{start_row_from}
 use Rattle.pm_simplex.proofs.start.start_row.Goals as goal

@@ -1,5 +1,5 @@
 use Rattle.pm_vector.specs.Rows.{ratio_at}
-use Rattle.pm_matrix.specs.Matrices.{IsFraction}
+use Rattle.pm_fraction.specs.Matrices.{IsFraction}
 use Rattle.pm_simplex.proofs.start.start_row.Given as goal
 use Rattle.pm_simplex.specs.Starts.{body_at}
 use Rattle.std.proofs.Common.{length, ℕ, ◌<◌, ◌≡◌}

@@ -1,5 +1,0 @@
-use Rattle.pm_elim.proofs.rows.copies.Given as goal
-use Rattle.std.proofs.Common.{take, ◌≡◌}
-
-abbrev pub invariant-loop-row : goal.invariant-loop-row
-invariant-loop-row l = l.made.items ≡ take l.row-index l.rows

@@ -1,5 +1,0 @@
-use Rattle.pm_matrix.proofs.Numerators.{NumeratorsSoFar}
-use Rattle.pm_matrix.proofs.primitive.scaled_numerators.Given as goal
-
-abbrev pub invariant-loop-i : goal.invariant-loop-i
-invariant-loop-i l = NumeratorsSoFar l.row l.m l.i l.numerators

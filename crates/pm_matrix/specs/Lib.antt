@@ -1,4 +1,0 @@
-pub mod FractionRows
-pub mod Matrices
-pub mod Multiples
-pub mod Wideness
