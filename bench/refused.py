@@ -130,7 +130,9 @@ def cdd(rows, size="1 3 rational", head="H-representation\n", tail=""):
 def bad_cdd():
     bad = lambda text, line, told, *words: BadFile("from-cdd", text, line, told, words)
     yield bad("", 1, "'begin' is missing")
-    yield bad(cdd("1 0 1", head="a name\n"), 2, "neither H-representation nor V-representation")
+    yield bad(cdd("1 0 1", head="a name\na second name\n"), 2, "'a second name' is not understood")
+    yield bad(cdd("1 0 1", head="", size="1 3 complex"), 2, "numbers of the kind 'complex'")
+    yield bad(cdd("1 0 1\n0 1", head="", size="2 3 integer"), 4, "row 2: 2 entries")
     yield bad(
         cdd("1 0 1", head="H-representation\nV-representation\n"), 2, "a second representation"
     )

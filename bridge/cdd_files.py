@@ -12,6 +12,9 @@ from scripts import script_lines
 
 HALF_SPACES, GENERATORS = "H-representation", "V-representation"
 
+# How a file of cddlib goes on where its representation is left out: 'begin' on a line, and the size below it.
+BEGIN = re.compile(r"^[ \t]*begin[ \t]*(?:\r\n|\r|\n)\s*[0-9*]+[ \t]+[0-9]+[ \t]+(?:integer|rational|real)\b", re.M | re.A)
+
 # Options that steer a computation or what is printed.
 HARMLESS = set(
     """adjacency allbases cache debug digits dualperturb dynout_off dynout_on estimates facet_listing
@@ -160,7 +163,9 @@ class Reader:
                 break
             self.read_head_line(line, words)
         if self.file.what is None:
-            raise Refusal(line, f"neither {HALF_SPACES} nor {GENERATORS} stands before 'begin'")
+            self.file.what = HALF_SPACES
+            told = f"neither {HALF_SPACES} nor {GENERATORS} stands before 'begin'"
+            self.notes.tell(line, f"{told}: read as {HALF_SPACES}, that is as inequalities, as cddlib does")
 
     def read_head_line(self, line, words):
         if words in ([HALF_SPACES], [GENERATORS]):

@@ -2,7 +2,7 @@
 
 import re
 
-from cdd_files import read_cdd
+from cdd_files import BEGIN, read_cdd
 from normaliz_files import read_normaliz
 from normaliz_results import are_results
 from polymake_files import is_saved, read_polymake
@@ -20,7 +20,7 @@ def form_of(text):
     """Which program's file a text is, by its look, or None."""
     if text.lstrip()[:1] in ("{", "<", "_"):
         return SAVED if is_saved(text) else POLYMAKE
-    if REPRESENTATION.search(text):
+    if REPRESENTATION.search(text) or BEGIN.search(text):
         return CDD
     if NORMALIZ_HEAD.match(text) or are_results(text):
         return NORMALIZ
