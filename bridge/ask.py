@@ -245,7 +245,7 @@ def plan_all(session, asked, options, wanted, folder):
         if found.lines[0].startswith(("plan ", "no 10 ")) and os.access(options.plan, os.X_OK):
             book = book_name(options)
             said = plans.verdict(options.plan, found, book, folder)
-            print(f"    {said}: {' '.join(plans.call_words(found, book))}", flush=True)
+            print(f"    {said}: {plans.typed(found, options.rules or options.book)}", flush=True)
         if found.lines[0].startswith("no "):
             refused.append((reference, name, found.lines[0]))
     for it in refused:

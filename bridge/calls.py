@@ -8,10 +8,15 @@ BRIDGES = Path(__file__).resolve().parent
 TOP = BRIDGES.parent
 
 
+def file(path):
+    """A file as it is named in this folder: by its whole path where it is not below it."""
+    path, here = Path(path), Path.cwd()
+    return shlex.quote(str(path.relative_to(here) if path.is_relative_to(here) else path))
+
+
 def bridge(name):
     """A bridge."""
-    path, here = BRIDGES / name, Path.cwd()
-    return shlex.quote(str(path.relative_to(here) if path.is_relative_to(here) else path))
+    return file(BRIDGES / name)
 
 
 def wrapper():

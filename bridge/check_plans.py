@@ -6,7 +6,7 @@ import sys
 import command
 from calls import TOP, wrapper
 from explaining import Explainer, Line
-from plans import call_words, explained, verdict
+from plans import explained, typed, verdict
 from refusals import Refusal, told_path
 from session import Ended, Session
 from spoken import fault_of, is_silent
@@ -70,7 +70,7 @@ def run(options, text):
         for number, plan, said in checks(session, text, options.rules, "."):
             found.append(said.startswith(AGREES))
             print(f"{told_path(options.file)}:{number}: {plan.short}")
-            print(f"    {said}: {wrapper()} {' '.join(call_words(plan, options.rules))}", flush=True)
+            print(f"    {said}: {typed(plan, options.rules)}", flush=True)
     return found
 
 

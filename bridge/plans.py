@@ -4,7 +4,7 @@ import re
 import subprocess
 from dataclasses import dataclass
 
-from calls import bridge
+from calls import bridge, file, wrapper
 from properties import PAIRS, PROGRAM_PROPERTIES, PROPERTIES, TYPES, by_name
 from spoken import is_meant, nearest
 
@@ -95,6 +95,12 @@ def explained(session, reference, type_name, asked, disabled=()):
 def call_words(found, book):
     """The words of the checker for a plan, by the standard rules or by a book."""
     return ["check-plan", *(["--rules", book] if book else []), *found.words]
+
+
+def typed(found, book):
+    """The call of the checker for a plan as it is typed in this folder; the book is a path, or None."""
+    first, *words = call_words(found, None)
+    return " ".join([wrapper(), first, *(["--rules", file(book)] if book else []), *words])
 
 
 def verdict(checker, found, book, folder):
