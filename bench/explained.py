@@ -5,8 +5,10 @@ from types import SimpleNamespace
 
 import bridges
 import book_fault
+import lost_steps
 import plans
 import why
+from evidence import Values
 from explaining import REFUSED, Explainer, Line, Pairing
 from properties import Thing
 from spoken import fault_of_line, is_silent
@@ -143,10 +145,35 @@ WHYS = [
     ("H_VECTOR", [], ["barred h_vector false BOUNDED"], ["h_vector (finds H_VECTOR from COMBINATORIAL_DIM, F_VECTOR) was not tried: of this object BOUNDED"], "no rule failed"),
     ("FACETS", [], ["barred h_vector false BOUNDED"], ["no rule failed: nothing leads there from POINTS"], "h_vector"),
     ("N_FACETS", [], ["barred n_facets disabled", "barred n_facets_sets no-client"], ["n_facets (finds N_FACETS from FACETS) was not tried: it was disabled", "its client was let go"], "no rule failed"),
-    ("FACETS", ["excluded dd_facets failed E1", "excluded dd_facets_wide failed E1"], ["barred dd_facets failed E1"], ["512 bits on the way did not help", "to try: smaller numbers"], "another order"),
+    ("FACETS", ["excluded dd_facets failed E1", "excluded dd_facets_wide failed E1"], ["barred dd_facets failed E1"], ["no other order of the rows gives it then, and only smaller numbers help", "to try: smaller numbers", "dd_facets_wide (finds FACETS, AFFINE_HULL from POINTS, INPUT_LINEALITY) failed by E1: it calculates with 512 bits, and"], "another order"),
     ("FACETS", ["excluded dd_facets failed E5"], [], ["where the answer itself has more than 2,048 rows no order of the given rows helps"], "sorted for instance"),
     ("F_VECTOR", ["excluded faces failed E5"], [], ["what needs no faces", "more than 65,536 faces come up"], "no order of the given rows"),
 ]
+
+# The values of an object, the sources of a rule, its evidence, and where the step is that is too wide.
+STEP = 'evidence r E1 {"basis":[["1329227995784915872903807060280344576","-1"]],"by":0,"column":1,"front":1,"list":LIST,"part":["-1","1329227995784915872903807060280344576"]}'
+OF_ROWS = STEP.replace("LIST", '"rows"')
+WIDE_ROWS = [["1329227995784915872903807060280344576", -1], [-1, "1329227995784915872903807060280344576"]]
+EXTENDED = 'evidence r E1 {"basis":[["1541964019372314166040657","0","0","1","0","0","0"],["0","881122296784179523451804","0","0","1","0","0"],["0","0","6167856077489256664162628","0","0","1","0"]],"by":0,"column":0,"front":3,"list":{"extended_without":0},"part":["2561100086025554985623421","-2347582625466347538259363","12638866480719164901008043","0","0","0","1"]}'
+MIXED_POINTS = [[1, "13/717", "511/839", "77/953"], [1, "691/701", "257/541", "8/991"], [1, "403/877", "99/643", "619/823"], [1, "871/907", "715/937", "347/521"], [1, "5/769", "11/947", "523/727"]]
+LOST_STEPS = [
+    ({"POINTS": WIDE_ROWS, "INPUT_LINEALITY": []}, "POINTS, INPUT_LINEALITY", OF_ROWS, "at row 1 of POINTS in column 1, as the rows of POINTS are eliminated one after another, counted from 0"),
+    ({"POINTS": [WIDE_ROWS[1], [0, 1]], "INPUT_LINEALITY": WIDE_ROWS[:1]}, "POINTS, INPUT_LINEALITY", OF_ROWS, "at row 0 of POINTS in column 1, as the rows of INPUT_LINEALITY and POINTS"),
+    ({"POINTS": WIDE_ROWS, "INPUT_LINEALITY": []}, "VERTICES, LINEALITY_SPACE", OF_ROWS, None),
+    ({"POINTS": WIDE_ROWS[::-1], "INPUT_LINEALITY": []}, "POINTS, INPUT_LINEALITY", OF_ROWS, None),
+    ({"POINTS": WIDE_ROWS, "INPUT_LINEALITY": []}, "POINTS, INPUT_LINEALITY", "evidence r stored E1", None),
+    ({"POINTS": [[2, 1], *WIDE_ROWS], "INPUT_LINEALITY": []}, "POINTS, INPUT_LINEALITY", STEP.replace("LIST", '{"without":0}'), "at row 2 of POINTS in column 1, as the rows of POINTS without row 0 of POINTS are"),
+    ({"POINTS": MIXED_POINTS, "INPUT_LINEALITY": []}, "POINTS, INPUT_LINEALITY", EXTENDED, "at column 3, as the columns of POINTS without row 0 of POINTS are eliminated one after another, counted from 0"),
+]
+
+
+def check_lost_steps(check):
+    """Where an elimination comes to a number that is too wide."""
+    for held, sources, line, told in LOST_STEPS:
+        values = Values("Cone", len(held["POINTS"][0]), held)
+        said = lost_steps.told(values, sources.split(", "), [line])
+        is_so = said is None if told is None else said is not None and told in said
+        check.is_so(f"a step that is lost, of {held}", is_so, f"{said!r}, without {told!r}")
 
 
 def check_whys(check):

@@ -1,9 +1,12 @@
 """Why a property was not found: which rules failed by what, what is held, and what to try."""
 
+import json
 import re
 from dataclasses import dataclass
 
+import lost_steps
 from calls import bridge, wrapper
+from evidence import Values
 from properties import PAIRS, PROGRAM_PROPERTIES, by_name
 from refusals import told_path
 
@@ -13,10 +16,10 @@ BARRED = re.compile(r"barred (\S+) (false|disabled|no-client)(?: (\S+))?")
 
 # What each kind of evidence shows.
 EVIDENCE = {
-    "E1": "a step of an elimination of its rows needs numbers of more than 127 bits",
-    "E2": "two rays on the way of double description combine to numbers of more than 127 bits",
-    "E3": "a pivot of a linear program over its rows needs numbers of more than 127 bits",
-    "E4": "the product of two of its rows needs more than 127 bits",
+    "E1": "the elimination of its rows leads to a number of more than 127 bits",
+    "E2": "two rays that double description combines lead to a number of more than 127 bits",
+    "E3": "a pivot of a linear program over its rows leads to a number of more than 127 bits",
+    "E4": "the product of two of its rows has more than 127 bits",
     "E5": "more than 2,048 rays, facets or cells come up",
 }
 TOO_MANY_FACES = "more than 65,536 faces come up, or 4,000,000 indices in them"
@@ -29,10 +32,15 @@ GENERATORS = ("POINTS", "VERTICES")
 # The client that finds all faces, whose E5 speaks of these.
 OF_FACES = "faces"
 
-# What is said where the wide rules failed by their numbers too, and where rows are too many.
+# What is said of a wide rule that failed by its numbers too: its evidence is that of the standard rule.
+STILL_TOO_WIDE = (
+    "it calculates with 512 bits, and these are not enough, or a number that it has to keep has more than 127 bits"
+)
+
+# What is said after all rules, and where rows are too many.
 TOO_WIDE = (
-    "512 bits on the way did not help: then mostly the answer itself has numbers of more than 127 bits, "
-    "and no rule and no order of the rows gives it, but other coordinates do"
+    "if the wide rules fail too, mostly the answer itself has a number of more than 127 bits: "
+    "no rule and no other order of the rows gives it then, and only smaller numbers help"
 )
 TOO_MANY = (
     "to try: a smaller object; where the answer itself has more than 2,048 rows no order of the given rows "
@@ -108,7 +116,8 @@ class Told:
     """What the session tells of the object after a refusal."""
 
     def __init__(self, session, thing, name, refused):
-        self.type_name = thing.type_name
+        self.session, self.name = session, name
+        self.type_name, self.columns = thing.type_name, thing.columns
         self.rules = rules_of(session.ask("rules"))
         self.exclusions = list(exclusions_of(session.ask(f"history {name}"), self.rules))
         labels = {it.rule.label for it in self.exclusions}
@@ -123,6 +132,21 @@ class Told:
             origin = session.ask(f"origin {name} {prop}")[0]
             if not prop.endswith("_AMBIENT_DIM"):
                 self.held.get(origin, []).append(prop)
+
+    def values(self, rule_names):
+        """The values of a rule's sources that are held, by the first names of their properties."""
+        found = {}
+        for name in rule_names:
+            reply = self.session.ask(f"lookup {self.name} {self.names([name])}")[0].split(" ", 2)
+            if len(reply) == 3 and reply[0] == self.name:
+                found[name] = json.loads(reply[2])
+        return Values(self.type_name, self.columns, found)
+
+    def lost_step(self, rule):
+        """Where an elimination of the rule left 127 bits, in words, or None."""
+        lines = self.session.ask(f"evidence {self.name} {rule.label}")[1:]
+        sources = [it for it in rule.sources if not it.startswith("LP.")]
+        return lost_steps.told(self.values(sources), sources, lines, lambda it: self.names([it])) if self.columns else None
 
     def names(self, rule_names):
         """The names of a rule, as the object's type has them."""
@@ -146,8 +170,11 @@ def reason(told, exclusion):
     shown = EVIDENCE.get(exclusion.what, "it cannot go on")
     if exclusion.what == "E5" and rule.client == OF_FACES:
         shown = TOO_MANY_FACES
+    step = told.lost_step(rule) if exclusion.what == "E1" else None
     if exclusion.what in OF_NUMBERS and rule.label.endswith(OF_WIDE):
-        shown = f"not by numbers of 512 bits either; {shown}"
+        shown, step = STILL_TOO_WIDE, None
+    elif step is not None:
+        shown = f"a number of more than 127 bits comes up {step}"
     return f"{finds(told, rule)} failed{place} by {exclusion.what}: {shown}"
 
 
