@@ -4,13 +4,14 @@ import re
 from types import SimpleNamespace
 
 import bridges
+import absent
 import book_fault
 import lost_steps
 import plans
 import why
 from evidence import Values
 from explaining import REFUSED, Explainer, Line, Pairing
-from properties import Thing
+from properties import PROGRAM_PROPERTIES, TYPES, Thing, by_name
 from spoken import fault_of_line, is_silent
 
 # Lines that speak no command.
@@ -33,6 +34,12 @@ SLIPS = [
     ("take p POINTS", "a word is missing: 'take' is written like 'take p POINTS"),
     ("$p = cube(3);", "this looks like polymake's own language"),
     ("print $p->FACETS;", "this looks like polymake's own language"),
+    ("make c cube 3;", "no ';' stands behind a command: 'make c cube 3' is read"),
+    ("new p Polytope; give p FACETS", "each command takes a line of its own, without ';': 'new p Polytope', 'give p FACETS' are read"),
+    ("make c cube 3 ;give c FACETS;", "'make c cube 3', 'give c FACETS' are read"),
+    ("x;y", "'x' is no command; each command takes a line of its own, without ';'"),
+    ("make c cube 3;giv c FACETS", "each command takes a line of its own, without ';'"),
+    ("give p Inequalities", "'Inequalities' is no property, whose names have capitals: is INEQUALITIES meant?"),
     ("1 0 0", "a row of numbers is no command"),
     ("[[1,0]]", "a row of numbers is no command"),
     ("rules x", "'rules' stands alone"),
@@ -59,6 +66,25 @@ EXPLAINED = [
     (POLYTOPE + "give p.a MAXIMAL_VALUE\nno 2 UnknownName", "p has no linear program 'a': it has none"),
     (POLYTOPE + "new p Cone\nno 3 NameTaken", "'p' is there already"),
     (POLYTOPE + "take p POINTS [[1,0.5]]\nno 6 BadValue number", "POINTS: row 1, entry 2: '0.5' is no fraction: write \"1/2\""),
+    (POLYTOPE + "take p POINTS [[1,.5],[1,1]]\nno 6 BadValue json", "row 1, entry 2: .5 is no number of JSON: write \"1/2\""),
+    (POLYTOPE + "take p POINTS [[1,0],[1,5.]]\nno 6 BadValue json", "row 2, entry 2: 5. is no number of JSON: write 5"),
+    (POLYTOPE + "take p POINTS [[1,+1/2]]\nno 6 BadValue json", "row 1, entry 2: +1/2 is no number of JSON: write \"1/2\""),
+    (POLYTOPE + f"take p POINTS [[1,+{2**64}]]\nno 6 BadValue json", f"is no number of JSON: write \"{2**64}\""),
+    (POLYTOPE + 'take p POINTS [[1,".5"]]\nno 6 BadValue number', "row 1, entry 2: '.5' is no fraction p or p/q: write \"1/2\""),
+    (POLYTOPE + 'take p POINTS [[1,"5."]]\nno 6 BadValue number', "'5.' is no fraction p or p/q: write \"5\""),
+    (POLYTOPE + 'take p POINTS [[1,"+5"]]\nno 6 BadValue number', "'+5' is no fraction p or p/q: write \"5\""),
+    (POLYTOPE + 'take p POINTS [[1,"0.25"]]\nno 6 BadValue number', "'0.25' is no fraction p or p/q: write \"1/4\""),
+    (POLYTOPE + "take p POINTS [[1,True]]\nno 6 BadValue json", "row 1, entry 2: True is true in JSON"),
+    (POLYTOPE + "take p BOUNDED False\nno 6 BadValue json", "BOUNDED: False is false in JSON"),
+    (POLYTOPE + 'take p BOUNDED "True"\nno 6 BadValue shape', "BOUNDED: \"True\" is no truth value: write true"),
+    (POLYTOPE + "take p BOUNDED 0\nno 6 BadValue shape", "BOUNDED: 0 is no truth value: write false"),
+    (POLYTOPE + "take p BOUNDED [1]\nno 6 BadValue shape", "BOUNDED is true or false"),
+    (POLYTOPE + "take p N_FACETS 4.0\nno 6 BadValue shape", "'4.0' is no whole number that is taken: write 4"),
+    (POLYTOPE + "take p N_FACETS None\nno 6 BadValue json", "None is no value: leave the property out"),
+    (POLYTOPE + "take p POINTS [[1,0]]; give p FACETS\nno 6 BadValue json", "each command takes a line of its own, without ';'"),
+    (POLYTOPE + "give p VOLUME\nno 5 UnknownProperty", "no property of polytopes: volumes are not computed here; PLACING_TRIANGULATION has simplices"),
+    (POLYTOPE + "give p MAX_VALUE\nno 5 UnknownProperty", "of a linear program MAXIMAL_VALUE is meant"),
+    (POLYTOPE + "new p.a LP\nok\ngive p.a MAX_VALUE\nno 5 UnknownProperty", "of a linear program MAXIMAL_VALUE is meant"),
     (POLYTOPE + "take p POINTS [[1,0],[1,1/2]]\nno 6 BadValue json", "row 2, entry 2: 1/2 without quotes: a fraction is a text, \"1/2\""),
     (POLYTOPE + "take p POINTS [[1,0],['1',1]]\nno 6 BadValue json", "row 2, entry 1: a quote ' where JSON has \""),
     (POLYTOPE + "take p POINTS [[1,0],[1,0]\nno 6 BadValue json", "the value ends before its brackets are closed"),
@@ -245,8 +271,17 @@ def check_session(check, name, text):
         check.is_so(f"{name}:{line.number}: one line", told is None or told.isprintable(), repr(told))
 
 
+def check_absent(check):
+    """The names that are not had are none, and those that come near are properties."""
+    known = {*PROGRAM_PROPERTIES, *(name for type_name in TYPES for name in by_name(type_name))}
+    for word, told in absent.ABSENT.items():
+        near = set(re.findall(r"[A-Z][A-Z_]+", told))
+        check.is_so(f"the absent property {word}", word not in known and near <= known, told)
+
+
 def check_explained(check):
     """What is said of refused lines, and of each session of tests/."""
+    check_absent(check)
     for line, told in SLIPS:
         said = fault_of_line(line) or ""
         check.is_so(f"the line {line!r}", told in said, f"{said!r}, without {told!r}")

@@ -5,6 +5,7 @@ from collections import deque
 from dataclasses import dataclass, field
 from pathlib import Path
 
+import absent
 import value_faults
 from properties import PAIRS, PROGRAM_PROPERTIES, TYPES, Property, by_name
 from spoken import COMMANDS, cut, fault_of_line, is_meant, is_silent, nearest
@@ -220,7 +221,7 @@ class Explainer:
         other = self.name_here(line.words[1], word)
         if other:
             return f"{cut(word)} is no property of {of}: {other} is what it is called there"
-        return f"{cut(word)} is no property of {of}{is_meant(word, known)}"
+        return f"{cut(word)} is no property of {of}{absent.told(word) or is_meant(word, known)}"
 
     def name_here(self, reference, word):
         """What another type's property is called in the type of this object."""

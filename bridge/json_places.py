@@ -4,6 +4,7 @@ import json
 import re
 from dataclasses import dataclass
 
+from json_tokens import meant_at
 from refusals import Fault, Refusal, told_name
 from values import READER
 
@@ -33,7 +34,8 @@ def value_at(text, at):
     try:
         return READER.raw_decode(text, at)
     except json.JSONDecodeError as fault:
-        raise Refusal(fault.lineno, f"no JSON: {fault.msg}") from None
+        told, _ = meant_at(text, fault.pos)
+        raise Refusal(fault.lineno, f"no JSON: {told or fault.msg}") from None
     except RecursionError:
         raise Refusal(line_of(text, at), "JSON that is nested too deeply") from None
     except Fault as fault:
@@ -44,7 +46,8 @@ def expect(text, at, marks, what):
     """The mark that stands behind white space, and where it ends."""
     at = behind_white(text, at)
     if at >= len(text) or text[at] not in marks:
-        raise Refusal(line_of(text, at), f"no JSON: {what} is expected")
+        told, _ = meant_at(text, at)
+        raise Refusal(line_of(text, at), f"no JSON: {told or f'{what} is expected'}")
     return text[at], at + 1
 
 

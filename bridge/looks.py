@@ -6,8 +6,8 @@ from cdd_files import BEGIN, read_cdd
 from normaliz_files import read_normaliz
 from normaliz_results import are_results
 from polymake_files import is_saved, read_polymake
-from refusals import Refusal
-from rows_files import are_rows, read_rows
+from refusals import Refusal, shown
+from rows_files import are_rows, kept_lines, nearly_heading, read_rows
 
 SAVED, POLYMAKE, CDD, NORMALIZ = "saved here", "of polymake", "of cddlib or lrslib", "of Normaliz"
 ROWS = "by plain rows"
@@ -38,4 +38,7 @@ def read_thing(text, notes):
         return read_normaliz(text, notes)
     if form is ROWS:
         return read_rows(text, notes)
+    number, first = next(kept_lines(text), (None, ""))
+    if nearly_heading(first):
+        raise Refusal(number, f"{shown(first)} is no heading of rows: is {nearly_heading(first)} meant?")
     raise Refusal(None, "no data file of a kind that is known here")

@@ -68,7 +68,8 @@ def why_left(member, items, attached, saved):
     if member.key in attached:
         return "an attachment, which is no property"
     if member.key not in items:
-        return "no property that this program takes"
+        hint = f", and {member.key.upper()} is one" if member.key.upper() in items else ""
+        return f"no property that this program takes{hint}"
     if not saved and not items[member.key].is_of_polymake:
         return "polymake has it in another form"
     return "it is undefined in the file" if member.value is None else None

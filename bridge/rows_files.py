@@ -125,9 +125,17 @@ def heading_of(line):
     return word if word in HEADINGS else None
 
 
+def nearly_heading(line):
+    """The heading that a line is but for capitals, or None."""
+    word = line.removesuffix(":").lower()
+    return word if word in HEADINGS and not heading_of(line) else None
+
+
 def is_header(line, below):
     """Whether a line has the names of columns, of as many as the row below it has."""
     entries = lambda text: text.replace(",", " ").split()
+    if nearly_heading(line):
+        return False
     return all(map(NAME.fullmatch, entries(line))) and len(entries(line)) == len(entries(below))
 
 

@@ -228,6 +228,16 @@ def with_single_blanks(line):
     return " ".join(words)
 
 
+def fault_of_parts(line):
+    """What is said of commands on one line with ';' between or behind them, or None where they are none."""
+    parts = [with_single_blanks(it) for it in line.split(";") if it.strip()]
+    if ";" not in line or not parts or any(map(fault_of, parts)):
+        return None
+    if len(parts) == 1:
+        return f"no ';' stands behind a command: {cut(parts[0])} is read"
+    return f"each command takes a line of its own, without ';': {', '.join(map(cut, parts))} are read"
+
+
 def fault_of_line(line):
     """Why a line is no command: an ordinary slip that mends it, or the first word that is wrong."""
     if "\ufffd" in line:
@@ -243,9 +253,14 @@ def fault_of_line(line):
     mended = with_single_blanks(before)
     if mark and before.strip() and fault_of(mended) is None:
         return f"a comment takes a line of its own: {cut(mended)} is read"
+    parted = fault_of_parts(line)
+    if parted:
+        return parted
     if PERL.match(line) or line.rstrip().endswith(";"):
         told = "save the object there, and ./polymake FILE PROP.. reads the file"
         return f"this looks like polymake's own language, which is not read here: {told}"
     if re.match(r"\s*[-+.]?[0-9\[(]", line):
         return "a row of numbers is no command: 'take p POINTS [[1,0],[1,1]]' gives rows, and a file of rows has no commands"
+    if ";" in line:
+        return f"{fault_of(line.partition(';')[0].rstrip()) or fault_of(line)}; each command takes a line of its own, without ';'"
     return fault_of(line)

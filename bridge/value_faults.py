@@ -5,7 +5,8 @@ import math
 import re
 from fractions import Fraction
 
-from entries import decimal_of
+from entries import hint
+from json_tokens import meant_at
 from properties import Kind
 from refusals import Fault, shown
 from values import READER, Inexact
@@ -13,10 +14,9 @@ from values import READER, Inexact
 MOST = 2**127 - 1
 MOST_ROWS, MOST_COLUMNS = 2048, 33
 
-# How many digits a number may have here before it is surely too wide, and how long one is that is written anew.
-MOST_DIGITS, MOST_SHOWN = 100, 30
+# How many digits a number may have here before it is surely too wide.
+MOST_DIGITS = 100
 FRACTION = re.compile(r"(-?[0-9]+)(?:/([0-9]+))?", re.ASCII)
-UNQUOTED = re.compile(r"-?[0-9]+/[0-9]+", re.ASCII)
 
 # The matrices in which no row is zero, and those whose rows begin with 0 or with no negative number.
 WITHOUT_ZERO = ("VERTICES", "FACETS")
@@ -59,10 +59,11 @@ def json_fault(text):
         at = fault.pos
     except (Fault, RecursionError) as fault:
         return f"it is no JSON: {fault}"
-    for found in UNQUOTED.finditer(text):
-        if found.start() <= at <= found.end() and text[found.start() - 1 : found.start()] != '"':
-            word = found[0]
-            return f'{place_at(text, found.start())}{word} without quotes: a fraction is a text, "{word}"'
+    told, begin = meant_at(text, at)
+    if told:
+        return f"{place_at(text, begin)}{told}"
+    if text[at : at + 1] == ";":
+        return "';' stands behind the value: each command takes a line of its own, without ';'"
     if text[at : at + 1] == "'":
         return f'{place_at(text, at)}a quote \' where JSON has "'
     if at >= len(text):
@@ -93,24 +94,17 @@ def entry_fault(entry):
 
 
 def meant(text):
-    """A hint at the fraction that a decimal is."""
-    hint = decimal_hint(text)
-    return f": write {hint}" if hint else ""
-
-
-def decimal_hint(text):
-    """A decimal as the fraction that it is, or nothing."""
-    try:
-        return f'"{decimal_of(text)}"' if len(text) <= MOST_SHOWN else ""
-    except Fault:
-        return ""
+    """A hint at the fraction that a number in another writing is."""
+    found = hint(text)
+    return f': write "{found}"' if found else ""
 
 
 def whole_fault(entry, is_index):
     """Why an entry is no whole number or no place, or None."""
     text = str(entry)
     if isinstance(entry, (bool, list, dict)) or entry is None or not re.fullmatch(r"-?[0-9]{1,100}", text):
-        return f"{shown(text)} is no whole number that is taken"
+        found = hint(text)
+        return f"{shown(text)} is no whole number that is taken" + (f": write {found}" if found.lstrip("-").isdigit() else "")
     if is_index and int(text) < 0:
         return f"{text} is below 0, and places count from 0"
     return None
@@ -183,6 +177,13 @@ def list_faults(value, fault_of_entry):
             yield f"entry {at}: {fault}"
 
 
+def truth_fault(value):
+    """What is meant by a text or a number in place of a truth value, or None."""
+    words = {"true": "true", "false": "false", "1": "true", "0": "false"}
+    told = words.get(str(value).lower())
+    return f"{json.dumps(value, default=str)} is no truth value: write {told}" if told else None
+
+
 def value_faults(kind, value):
     """The faults of a value of this kind that can be found by its entries."""
     if kind is Kind.MATRIX:
@@ -193,8 +194,12 @@ def value_faults(kind, value):
         yield from list_faults(value, entry_fault)
     elif kind is Kind.COUNTS:
         yield from list_faults(value, lambda it: whole_fault(it, False))
+    elif kind is Kind.TRUTH:
+        yield truth_fault(value)
     elif kind is Kind.WHOLE and isinstance(value, int) and value > MOST_COLUMNS:
         yield f"{value} is more than is taken"
+    elif kind is Kind.WHOLE and isinstance(value, (str, Inexact)):
+        yield whole_fault(value, False)
 
 
 def row_test(name, type_name, row):
