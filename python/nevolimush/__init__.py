@@ -15,7 +15,7 @@ from .refusals import CLASSES as _CLASSES
 from .refusals import Evidence, Failure, NoChain, Refused
 from .session import Session, current
 from .things import Cone, Fan, LinearProgram, Plan, Polytope, Thing, cross, cube, cyclic, simplex
-from .values import Matrix
+from .values import BadEntry, Matrix
 
 globals().update({it.__name__: it for it in _CLASSES.values()})
 
@@ -28,6 +28,6 @@ def load(path, session=None):
 __all__ = [
     *("Polytope", "Cone", "Fan", "LinearProgram", "Thing", "cube", "simplex", "cross", "cyclic", "load"),
     *("Session", "current", "Matrix", "Plan", "Evidence", "Failure"),
-    *("Refused", "Ended", "NoProgram", "NoBridge", "BadForm"),
+    *("Refused", "Ended", "NoProgram", "NoBridge", "BadForm", "BadEntry"),
     *(it.__name__ for it in _CLASSES.values()),
 ]

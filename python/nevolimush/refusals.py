@@ -1,23 +1,30 @@
 """What the program refuses, as exceptions: one class for each number of docs/manual.md."""
 
+import json
 import re
 from dataclasses import dataclass
 
+from . import faults
 from .table import REFUSALS
 
 # What each kind of evidence shows; docs/evidence.md says it in full.
 EVIDENCE = {
-    "E1": "a step of an elimination of its rows needs numbers of more than 127 bits",
-    "E2": "two rays on the way of double description combine to numbers of more than 127 bits",
-    "E3": "a pivot of a linear program over its rows needs numbers of more than 127 bits",
-    "E4": "the product of two of its rows needs more than 127 bits",
+    "E1": "the elimination of its rows leads to a number of more than 127 bits",
+    "E2": "two rays that double description combines lead to a number of more than 127 bits",
+    "E3": "a pivot of a linear program over its rows leads to a number of more than 127 bits",
+    "E4": "the product of two of its rows has more than 127 bits",
     "E5": "more than 2,048 rays, facets or cells come up, or more than 65,536 faces",
 }
 
-# What is said where the wide rules failed by their numbers too, and where rows or faces are too many.
+# What is said of a wide rule that failed by its numbers too: its evidence is that of the standard rule.
+STILL_TOO_WIDE = (
+    "it calculates with 512 bits, and these are not enough, or a number that it has to keep has more than 127 bits"
+)
+
+# What is said after all rules, and where rows or faces are too many.
 TOO_WIDE = (
-    "512 bits on the way did not help: then mostly the answer itself has numbers of more than 127 bits, "
-    "and no rule and no order of the rows gives it, but other coordinates do"
+    "if the wide rules fail too, mostly the answer itself has a number of more than 127 bits: "
+    "no rule and no other order of the rows gives it then, and only smaller numbers help"
 )
 TOO_MANY = (
     "to try: a smaller object, or what needs no faces; where the answer itself has more than 2,048 rows no order "
@@ -67,14 +74,20 @@ class Failure:
             return f"{self.label} was not tried: {PUT_ASIDE[self.how]}"
         shown = EVIDENCE.get(self.what, "it cannot go on")
         if self.what in OF_NUMBERS and self.label.endswith("_wide"):
-            shown = f"not by numbers of 512 bits either; {shown}"
+            shown = STILL_TOO_WIDE
         return f"{self.label} failed{place} by {self.what}: {shown}"
+
+
+def printable(text):
+    """A text in which each mark that a terminal would obey stands as JSON writes it."""
+    return "".join(it if it.isprintable() else json.dumps(it)[1:-1] for it in text)
 
 
 class Refused(Exception):
     """The program refused a command, and the object goes on as it was.
 
-    `number` and `name` are those of docs/manual.md, `reason` is what stands behind them, or "".
+    `number` and `name` are those of docs/manual.md, `reason` is what stands behind them, or "". `when`
+    says when it comes; where a reason stands there, it says the one condition that does not hold.
     """
 
     number = 0
@@ -84,12 +97,13 @@ class Refused(Exception):
         _, number, self.name, *reason = reply.split(" ", 3)
         self.number = int(number)
         self.reason = reason[0] if reason else ""
+        self.when = faults.reason(self.number, self.reason) or self.when
         self.lines = [reply]
         super().__init__(reply)
 
     def __str__(self):
         reason = f" {self.reason}" if self.reason else ""
-        return f"{self.number} {self.name}{reason}: {self.when}"
+        return printable(f"{self.number} {self.name}{reason}: {self.when}")
 
 
 def subclass(number):
@@ -125,16 +139,51 @@ class NoChain(Refused):
         return "\n".join(told + self.advice)
 
 
-CLASSES = {number: subclass(number) for number in REFUSALS if number != 10}
-CLASSES[10] = NoChain
+class BadValue(Refused):
+    """Refusal 6: the value cannot be taken.
+
+    `property` is the name of the property, `row` and `column` are the places from 0 where the fault is,
+    or None where it has none, `told` is what is wrong there, and `expected` what may stand there.
+    """
+
+    number = 6
+    when = REFUSALS[6][1]
+
+    def __init__(self, reply):
+        super().__init__(reply)
+        self.property, self.row, self.column = None, None, None
+        self.told, self.expected = self.when, ""
+
+    def place(self, name, fault):
+        """Says where the value of a property has its fault."""
+        self.property, self.row, self.column = name, fault.row, fault.column
+        self.told, self.expected = fault.told, fault.expected
+        self.when = f"{place_of(name, fault.row, fault.column)}: {fault.told}; expected: {fault.expected}"
+
+    def without_first_column(self):
+        """Says where the fault is in rows to which the first column was added."""
+        column = None if self.column is None else self.column - 1
+        self.place(self.property, faults.Fault(self.told, self.expected, self.row, column))
+
+
+def place_of(name, row, column):
+    """The property, and the row and the column where they are known."""
+    places = [("row", row), ("column" if row is not None else "place", column)]
+    return ", ".join([name, *(f"{what} {at}" for what, at in places if at is not None)])
+
+
+CLASSES = {number: subclass(number) for number in REFUSALS if number not in (6, 10)}
+CLASSES |= {6: BadValue, 10: NoChain}
 globals().update({it.__name__: it for it in CLASSES.values()})
 
 
-def refusal_of(lines):
-    """The exception of a reply that is a refusal."""
+def refusal_of(lines, given=None):
+    """The exception of a reply that is a refusal; of a value that was given, with the place of its fault."""
     number = int(lines[0].split(" ")[1])
     found = CLASSES.get(number, Refused)(lines[0])
     found.lines = list(lines)
+    if given is not None and isinstance(found, BadValue):
+        found.place(given.name, faults.of_value(given, found.reason))
     return found
 
 

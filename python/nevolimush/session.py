@@ -11,9 +11,10 @@ from contextvars import ContextVar
 from dataclasses import dataclass, field
 from pathlib import Path
 
-from . import finding
+from . import faults, finding
 from .process import MOST_BYTES, Process
 from .refusals import is_refused, is_tried, refusal_of
+from .table import PROPERTIES
 
 # How many objects the program holds, how long a line may be, and what is left for what a new start needs.
 MOST_OBJECTS = 32
@@ -26,6 +27,9 @@ FILE = "o.json"
 
 # What stands for an object's name in a step.
 HERE = "\0"
+
+# The property of linear programs that is given.
+OBJECTIVE = next(it for it in PROPERTIES if it.first == "LP.LINEAR_OBJECTIVE")
 
 ALL = weakref.WeakSet()
 
@@ -45,6 +49,27 @@ class Step:
     def of(self, name):
         """The command for an object of this name."""
         return self.line.replace(HERE, name)
+
+
+def given_in(lines):
+    """The value that the last of these commands gives, with the columns of those before; None where it gives none."""
+    found = {}
+    type_name = next((it.split(" ")[2] for it in lines if it.startswith("new ")), "")
+    known = {it.names[type_name]: it for it in PROPERTIES if type_name in it.names}
+    for line in lines:
+        word, reference, name, text = line.split(" ", 3) if line.count(" ") > 2 else ("", "", "", "")
+        if word != "take":
+            given = None
+            continue
+        item = OBJECTIVE if "." in reference else known.get(name)
+        if item is None:
+            return None
+        given = faults.Given(name, item.first, type_name, item.kind, faults.parsed(text), dict(found))
+        columns = faults.columns_in(item.kind, item.first, given.value)
+        found.update({} if columns is None else {name: columns})
+        if item.first == "SITES":
+            found["SITES rows"] = len(faults.rows_in(given.value)[0])
+    return given
 
 
 class Session:
@@ -239,7 +264,7 @@ class Session:
             if is_refused(lines) and not is_tried(lines):
                 if place:
                     self._ask(f"drop {name}")
-                raise refusal_of(lines)
+                raise refusal_of(lines, given_in([it.line for it in steps[: place + 1]]))
         return lines
 
     def file(self):

@@ -3,19 +3,24 @@
 import difflib
 import json
 import re
-from dataclasses import dataclass
+from dataclasses import dataclass, replace
 from itertools import count
 from operator import index
 
 from . import files, shown
-from .refusals import Evidence, Failure, NoChain, Refused, advice, is_refused, is_tried, refusal_of, useful
-from .session import FILE, HERE, Step, current
+from .absent import ABSENT
+from .faults import columns_in, parsed
+from .refusals import BadValue, Evidence, Failure, NoChain, Refused, advice, is_refused, is_tried, refusal_of, useful
+from .session import FILE, HERE, Step, current, given_in
 from .table import PROPERTIES
 from .values import copied, read, rows_of, written
 
 EVIDENCE = re.compile(r"evidence (\S+)(?: @(\S+))? (stored )?(E\d)(?: (.*))?")
 BARRED = re.compile(r"barred (\S+) (false|disabled|no-client)(?: (\S+))?")
 EXCLUDED = re.compile(r"excluded (\S+) (failed|false) (\S+)(?: @(\S+))?")
+
+# The refusals whose text speaks of several things.
+UNKNOWN_PROPERTY, UNKNOWN_RULE = 5, 16
 
 # How many linear programs the program holds of a polytope.
 MOST_PROGRAMS = 4
@@ -94,12 +99,18 @@ class Asked:
 
     def __getattr__(self, name):
         """What is said of a name that there is not."""
-        told = f"a {self.type_name} has no {name!r}"
-        if name.isupper():
-            same = [it.names[self.type_name] for it in self._properties.values() if name in it.names.values()]
-            near = same or difflib.get_close_matches(name, self._properties, 1, 0.5)
-            told += f": is {near[0]} meant?" if near else ""
-        raise AttributeError(told)
+        raise AttributeError(f"a {self.type_name} has no {name!r}{self._near(name)}")
+
+    @classmethod
+    def _near(cls, name):
+        """What is said of a name that is no property: what comes near, or that it is not had here."""
+        if not name.isupper() and name.upper() not in cls._properties:
+            return ""
+        same = [it.names[cls.type_name] for it in cls._properties.values() if name in it.names.values()]
+        if name in ABSENT and not same:
+            return f": {ABSENT[name]}"
+        near = same or difflib.get_close_matches(name.upper(), cls._properties, 1, 0.5)
+        return f": is {near[0]} meant?" if near else ""
 
 
 class Thing(Asked):
@@ -121,7 +132,7 @@ class Thing(Asked):
         steps = [Step(f"new {HERE} {self.type_name}")]
         for name, value in self._given(given):
             self._told.append(name)
-            steps.append(Step(f"take {HERE} {name} {written(self._properties[name].kind, value)}"))
+            steps.append(Step(f"take {HERE} {name} {written(self._properties[name].kind, value, name)}"))
         self._make(steps)
 
     def _begin(self, session):
@@ -198,12 +209,34 @@ class Thing(Asked):
 
     def _refusal(self, lines, asked="", line=""):
         """The exception of a refusal; of one for want of a chain, with what failed, what is held back, and what is held."""
-        found = refusal_of(lines)
+        found = refusal_of(lines, self._given_by(line))
+        found.when = self._why(found.number, line) or found.when
         if isinstance(found, NoChain):
             found.asked, found.failures, found.held = asked, self.failures, self.held
             found.barred = list(self._barred(line, {it.label for it in found.failures}))
             found.advice = list(advice(found.failures, found.barred, found.held, self._session.is_wide))
         return found
+
+    def _why(self, number, line):
+        """What a refusal says of a command about this object, where it says it of several things; or None."""
+        words = line.split(" ")
+        if number == UNKNOWN_PROPERTY:
+            known = LinearProgram if "." in words[1] else type(self)
+            unknown = next((it for it in words[2:] if it not in known._properties), "")
+            return f"a {known.type_name} has no property {unknown!r}{known._near(unknown)}"
+        return f"no rule of the book has the label {words[2]!r}" if number == UNKNOWN_RULE else None
+
+    def _given_by(self, line):
+        """The value that a command gives, beside the columns that the object has; None where it gives none."""
+        if not line.startswith("take "):
+            return None
+        given = given_in([f"new {HERE} {self.type_name}", *(it.line for it in self._steps or []), line])
+        for name in () if given.columns else self.held:
+            item = self._properties[name]
+            columns = columns_in(item.kind, item.first, parsed(self._say(f"lookup {HERE} {name}", changes=False)[0].split(" ", 2)[2]))
+            if columns is not None:
+                return replace(given, columns={name: columns})
+        return given
 
     def _barred(self, line, others):
         """The rules that `explain` tells to be held back from what a command asks, but the others."""
@@ -416,13 +449,18 @@ class Polytope(Thing):
     def __init__(self, *, session=None, affine=False, **given):
         if affine:
             given = {word: self._homogeneous(self._name_of(word, given), rows) for word, rows in given.items()}
-        super().__init__(session=session, **given)
+        try:
+            super().__init__(session=session, **given)
+        except BadValue as refusal:
+            if affine and refusal.property in self._first:
+                refusal.without_first_column()
+            raise
 
     def _homogeneous(self, name, rows):
         """Rows with the first column that they lack."""
         if name not in self._first:
             return rows
-        return [it if isinstance(it, dict) else [self._first[name], *it] for it in rows_of(rows)]
+        return [it if isinstance(it, dict) else [self._first[name], *it] for it in rows_of(rows, name)]
 
     def _begin(self, session):
         super()._begin(session)
@@ -502,7 +540,7 @@ class LinearProgram(Asked):
 
     def __init__(self, polytope, objective):
         self._begin(polytope, None)
-        self._objective = written("row", objective)
+        self._objective = written("row", objective, "LINEAR_OBJECTIVE")
         with self._session._lock:
             self._attach()
         self._values["LINEAR_OBJECTIVE"] = read("row", self._objective)

@@ -61,6 +61,16 @@ def copied(value):
 # What the program reads, from Python.
 
 
+class BadEntry(TypeError):
+    """What is given is no value of a property, by its type: `property`, and `row` and `column` from 0 where they are known."""
+
+    def __init__(self, told, name="", row=None, column=None):
+        places = [("row", row), ("column" if row is not None else "place", column)]
+        where = ", ".join(it for it in [name, *(f"{what} {at}" for what, at in places if at is not None)] if it)
+        super().__init__(f"{where}: {told}" if where else told)
+        self.property, self.row, self.column, self.told = name, row, column, told
+
+
 def part_of(number, name):
     """The numerator or denominator of a number, where it is an attribute or, as in Sage, a method."""
     part = getattr(number, name)
@@ -74,47 +84,56 @@ def entry_of(number):
     if isinstance(number, bool):
         raise TypeError(f"{number} is a truth value, where a number is wanted")
     if isinstance(number, float):
-        raise TypeError(
-            f"{number} is a float, which is seldom the number that is meant: give a Fraction, "
-            f"as Fraction({str(number)!r}), or a text, as '1/10'"
-        )
+        told = f"{number} is a float, which is seldom the number that is meant"
+        if not math.isfinite(number):
+            raise TypeError(told)
+        raise TypeError(f"{told}: give a Fraction, as Fraction({str(number)!r}), or a text, as {str(Fraction(str(number)))!r}")
     if not hasattr(number, "numerator") or not hasattr(number, "denominator"):
         raise TypeError(f"{number!r} is no number that is taken: give int, Fraction, or a text as '1/2'")
     top, bottom = part_of(number, "numerator"), part_of(number, "denominator")
     return str(top) if bottom == 1 else f"{top}/{bottom}"
 
 
-def row_of(row):
-    """A row of numbers."""
+def row_of(row, name="", at=None):
+    """A row of numbers, of this property and at this place."""
     if isinstance(row, (str, bytes)) or not hasattr(row, "__iter__"):
-        raise TypeError(f"{row!r} is no row of numbers")
-    return [entry_of(it) for it in row]
+        raise BadEntry(f"{row!r} is no row of numbers: a list of int, Fraction or texts is expected", name, at)
+    found = []
+    for column, entry in enumerate(row):
+        try:
+            found.append(entry_of(entry))
+        except (TypeError, ValueError) as fault:
+            raise BadEntry(str(fault), name, at, column) from None
+    return found
 
 
-def rows_of(rows):
+def rows_of(rows, name=""):
     """A matrix; one without rows may be told its columns, as [{"cols": 3}]."""
     if isinstance(rows, (str, bytes)) or not hasattr(rows, "__iter__"):
-        raise TypeError(f"{rows!r} is no list of rows")
-    return [it if isinstance(it, dict) else row_of(it) for it in rows]
+        raise BadEntry(f"{rows!r} is no list of rows: a list of lists is expected", name)
+    return [it if isinstance(it, dict) else row_of(it, name, at) for at, it in enumerate(rows)]
 
 
-def plain(value):
+def plain(value, name="", at=()):
     """Lists of whole numbers, whatever they come as: tuples, sets, ranges, numbers of other packages; in any order."""
     if isinstance(value, (bool, dict)):
         return value
     if hasattr(value, "__iter__") and not isinstance(value, (str, bytes)):
-        return [plain(it) for it in value]
+        return [plain(it, name, (*at, place)) for place, it in enumerate(value)]
     if isinstance(value, float):
-        raise TypeError(f"{value} is a float, where a whole number is wanted")
+        raise BadEntry(f"{value} is a float, where a whole number is wanted", name, *(at if len(at) != 1 else (None, *at))[:2])
     return int(value) if hasattr(value, "__index__") else value
 
 
-def written(kind, value):
-    """A value of a kind as the text that `take` has."""
+def written(kind, value, name=""):
+    """A value of a kind as the text that `take` has; the property is named where the value is none."""
     if kind == "matrix":
-        value = rows_of(value)
+        value = rows_of(value, name)
     elif kind == "row":
-        value = row_of(value)
+        value = row_of(value, name)
     elif kind != "extended number":
-        value = plain(value)
-    return json.dumps(value, separators=(",", ":"))
+        value = plain(value, name)
+    try:
+        return json.dumps(value, separators=(",", ":"))
+    except (TypeError, ValueError) as fault:
+        raise BadEntry(str(fault), name) from None

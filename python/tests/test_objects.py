@@ -190,6 +190,11 @@ class Made(Compared):
             with self.assertRaises(NotFit) as caught:
                 make()
             self.assertIn(caught.exception.reason, ("CENTERED", "size"))
+            # (of the conditions the one that does not hold is named)
+            told = {"CENTERED": "the origin in their interior only, and CENTERED is false", "size": "it is larger than is taken"}
+            self.assertTrue(str(caught.exception).endswith(told[caught.exception.reason]), str(caught.exception))
+        with self.assertRaisesRegex(NotFit, "17 NotFit BOUNDED: it is made of bounded polytopes only, and BOUNDED is false$"):
+            Polytope(points=[(1, 0), (0, 1)]).normal_fan()
         with self.assertRaises(ValueError):
             cube(2).product(cube(2, session=Session()))
 

@@ -7,16 +7,69 @@ import json
 import math
 import os
 import pickle
+import re
 import unittest
 from decimal import Decimal
 from fractions import Fraction
 from pathlib import Path
 
 import nevolimush
-from nevolimush import Cone, Fan, Polytope, finding, refusals, values
+from nevolimush import Cone, Fan, Polytope, faults, finding, refusals, values
 from nevolimush.table import PROPERTIES, REFUSALS
 
 PYTHON = Path(__file__).resolve().parents[1]
+
+
+A_NUMBER = "int, Fraction, or a text p or p/q, with numbers of at most 127 bits"
+WIDE_ROW = (1, f"1/{2**100}", f"1/{2**100 + 1}")
+
+# What the program refuses: the reason, the property, the row and the column, what is wrong, and what is expected.
+REFUSED = [
+    ("Polytope", {"points": [(1, 0), (1, "1/0")]}, "number", ("POINTS", 1, 1), "'1/0' divides by zero", A_NUMBER),
+    ("Polytope", {"points": [(1, 0), (1, "0.25")]}, "number", ("POINTS", 1, 1), "'0.25' is no fraction: write '1/4'", A_NUMBER),
+    ("Polytope", {"points": [("+1/2", 0)]}, "number", ("POINTS", 0, 0), "'+1/2' is no fraction: write '1/2'", A_NUMBER),
+    ("Polytope", {"points": [(1, ".5")]}, "number", ("POINTS", 0, 1), "'.5' is no fraction: write '1/2'", A_NUMBER),
+    ("Polytope", {"points": [(1, 0), (1, "a third")]}, "number", ("POINTS", 1, 1), "'a third' is no fraction", A_NUMBER),
+    ("Polytope", {"points": [(1, 2**127)]}, "number", ("POINTS", 0, 1), f"'{str(2**127)[:30]}..' has more than 127 bits", A_NUMBER),
+    ("Polytope", {"points": [(1, 10**200)]}, "number", ("POINTS", 0, 1), f"'{str(10**200)[:30]}..' has more than 127 bits", A_NUMBER),
+    ("Polytope", {"points": [(0, 0), (1, "x")], "affine": True}, "number", ("POINTS", 1, 1), "'x' is no fraction", A_NUMBER),
+    ("Cone", {"rays": [(1, 0), (1, "a")]}, "number", ("INPUT_RAYS", 1, 1), "'a' is no fraction", A_NUMBER),
+    ("Polytope", {"F_VECTOR": [4, "x"]}, "number", ("F_VECTOR", None, 1), "'x' is no whole number that is taken", "a whole number of 64 bits"),
+    ("Polytope", {"points": [(1, 0), (1,)]}, "shape", ("POINTS", 1, None), "1 entry, where row 0 has 2", "a row of 2 entries"),
+    ("Polytope", {"points": [(1, 0), {"cols": 3}]}, "shape", ("POINTS", 0, None), "2 entries, where the matrix has 3", "a row of 3 entries"),
+    ("Polytope", {"BOUNDED": "True"}, "shape", ("BOUNDED", None, None), "'True' is no truth value", "True or False"),
+    ("Polytope", {"HASSE_DIAGRAM": 7}, "shape", ("HASSE_DIAGRAM", None, None), "7 is no list", "for each rank the list of its faces"),
+    ("Polytope", {"GRAPH": [[0]]}, "shape", ("GRAPH", None, None), "it has another form", "for each node the list of its neighbours"),
+    ("Polytope", {"VERTICES_IN_FACETS": [[0], [1, 1]]}, "shape", ("VERTICES_IN_FACETS", 1, 1), "the place 1 stands twice", "each place once"),
+    ("Polytope", {"VERTICES_IN_FACETS": [[0], [2], {"cols": 2}]}, "index", ("VERTICES_IN_FACETS", 1, 0), "2 is no place", "a place from 0 to 1"),
+    ("Fan", {"rays": [(1, 0), (0, 1)], "maximal_cones": [[0, 3]]}, "index", ("MAXIMAL_CONES", 0, 1), "3 is no place", "a place from 0 to 1"),
+    ("Polytope", {"CONE_AMBIENT_DIM": 34}, "limit", ("CONE_AMBIENT_DIM", None, None), "34 columns", "a number of columns from 1 to 33"),
+    ("Polytope", {"points": [(1,) * 34]}, "limit", ("POINTS", None, None), "34 columns", "at most 33 columns"),
+    ("Polytope", {"points": [(1, 0)] * 2049}, "limit", ("POINTS", None, None), "2,049 rows", "at most 2,048 rows"),
+    ("Polytope", {"points": [(1, 0)], "inequalities": [(1, 0, 0)]}, "columns", ("INEQUALITIES", None, None), "3 columns, where POINTS has 2", "2 columns"),
+    ("Polytope", {"points": [(1, 0)], "sites": [(1, 0), (1, 1)], "heights": [1]}, "columns", ("SITE_HEIGHTS", None, None), "1 entry, where SITES has 2 rows", "one number for each site"),
+    ("Polytope", {"points": [(1, 0), (-1, 0)]}, "row", ("POINTS", 1, 0), "it begins with -1", "(1, x) of a point x, or (0, d) of a direction d"),
+    ("Polytope", {"facets": [(0, 1), (0, 0)]}, "row", ("FACETS", 1, None), "it is zero", "a row that is not zero"),
+    ("Polytope", {"points": [(1, 0)], "lineality": [(1, 0)]}, "row", ("INPUT_LINEALITY", 0, 0), "it begins with 1", "(0, d) of a line in the direction d"),
+    ("Polytope", {"sites": [(1, 0), (0, 1)]}, "row", ("SITES", 1, 0), "it begins with 0", "a positive number before the coordinates, as 1"),
+    ("Polytope", {"points": [(1, 0, 0), WIDE_ROW]}, "row", ("POINTS", 1, None), "as whole numbers without a common divisor it has one of more than 127 bits", "a row whose whole numbers have at most 127 bits"),
+]
+
+# What is refused by its type, with the place and a part of what is said.
+OF_OTHER_TYPES = [
+    ({"points": [(1, 0), (1, 0.5)]}, ("POINTS", 1, 1), "0.5 is a float, which is seldom the number that is meant: give a Fraction, as Fraction('0.5'), or a text, as '1/2'"),
+    ({"points": [(0, 0), (1, 0.5)], "affine": True}, ("POINTS", 1, 1), "0.5 is a float"),
+    ({"points": [(1, math.inf)]}, ("POINTS", 0, 1), "inf is a float"),
+    ({"points": [(1, True)]}, ("POINTS", 0, 1), "True is a truth value, where a number is wanted"),
+    ({"points": [(1, None)]}, ("POINTS", 0, 1), "None is no number that is taken"),
+    ({"points": [(1, 0), 7]}, ("POINTS", 1, None), "7 is no row of numbers"),
+    ({"points": 7}, ("POINTS", None, None), "7 is no list of rows"),
+    ({"heights": [1, 0.5]}, ("SITE_HEIGHTS", None, 1), "0.5 is a float"),
+    ({"VERTICES_IN_FACETS": [[0], [0, 1.0]]}, ("VERTICES_IN_FACETS", 1, 1), "1.0 is a float, where a whole number is wanted"),
+    ({"F_VECTOR": [4.0]}, ("F_VECTOR", None, 0), "4.0 is a float"),
+    ({"N_FACETS": 4.0}, ("N_FACETS", None, None), "4.0 is a float"),
+    ({"N_FACETS": object()}, ("N_FACETS", None, None), "not JSON serializable"),
+]
 
 
 class SageLike:
@@ -67,6 +120,20 @@ class Table(unittest.TestCase):
             self.assertIs(type(found), getattr(nevolimush, name))
             self.assertEqual((found.number, found.name, found.reason), (number, name, "a reason"))
             self.assertIsInstance(found, nevolimush.Refused)
+
+
+    def test_each_reason_says_what_it_is(self):
+        """The conditions and reasons that the manual names are those that have a text of their own."""
+        conditions = set(REFUSALS[17][1].partition("hold: ")[2].split(", "))
+        self.assertEqual(set(faults.REASONS[17]), conditions)
+        self.assertEqual(set(faults.REASONS[18]), set(re.findall(r"\b(?:combination|E\d)\b", REFUSALS[18][1])))
+        page = (PYTHON.parent / "docs" / "manual.md").read_text().partition("with `no 6 BadValue` and the first reason")[2].partition("```")[0]
+        named = {it for row in re.findall(r"^\| (`.*?`) \|", page, re.M) for it in re.findall(r"`(\w+)`", row)}
+        self.assertEqual(set(faults.REASONS[6]), named)
+        for number, told in faults.REASONS.items():
+            for reason, text in told.items():
+                found = refusals.refusal_of([f"no {number} {REFUSALS[number][0]} {reason}"])
+                self.assertEqual(str(found), f"{number} {REFUSALS[number][0]} {reason}: {text}")
 
 
 class Numbers(unittest.TestCase):
@@ -148,17 +215,52 @@ class Given(unittest.TestCase):
             Polytope(points=[(1, 0)]).no_such
 
     def test_what_the_program_refuses(self):
-        for reason, given in [
-            ("number", {"points": [(1, "1/0")]}),
-            ("number", {"points": [(1, 2**127)]}),
-            ("row", {"vertices": [(-1, 0)]}),
-            ("columns", {"points": [(1, 0)], "inequalities": [(1, 0, 0)]}),
-            ("shape", {"points": [(1, 0), (1,)]}),
-            ("index", {"VERTICES_IN_FACETS": [[2], {"cols": 2}]}),
-        ]:
+        """Each has the property, the row and the column from 0, what is wrong and what is expected."""
+        for type_name, given, reason, place, told, expected in REFUSED:
             with self.assertRaises(nevolimush.BadValue) as caught:
+                getattr(nevolimush, type_name)(**given)
+            found = caught.exception
+            self.assertEqual((found.number, found.reason, (found.property, found.row, found.column)), (6, reason, place))
+            self.assertEqual((found.told, found.expected), (told, expected))
+            self.assertIn(f": {told}; expected: {expected}", str(found))
+            self.assertTrue(str(found).startswith(f"6 BadValue {reason}: {place[0]}"), str(found))
+
+    def test_what_is_none_by_its_type(self):
+        for given, place, told in OF_OTHER_TYPES:
+            with self.assertRaises(nevolimush.BadEntry) as caught:
                 Polytope(**given)
-            self.assertEqual((caught.exception.number, caught.exception.reason), (6, reason))
+            found = caught.exception
+            self.assertEqual((found.property, found.row, found.column), place)
+            self.assertIsInstance(found, TypeError)
+            self.assertIn(told, str(found))
+            self.assertTrue(str(found).startswith(place[0]), str(found))
+
+    def test_objectives_that_are_refused(self):
+        with self.assertRaisesRegex(nevolimush.BadValue, "LINEAR_OBJECTIVE: 3 columns, where INEQUALITIES has 4; expected: 4 columns"):
+            nevolimush.cube(3).lp((1, 1, 1))
+        with self.assertRaisesRegex(nevolimush.BadValue, "LINEAR_OBJECTIVE: 3 columns, where POINTS has 2"):
+            Polytope(points=[(1, 0)]).lp((1, 1, 1))
+        with self.assertRaisesRegex(nevolimush.BadValue, "LINEAR_OBJECTIVE, place 1: '1/0' divides by zero"):
+            Polytope(points=[(1, 0)]).lp((1, "1/0"))
+        with self.assertRaisesRegex(nevolimush.BadEntry, "LINEAR_OBJECTIVE, place 1: 0.5 is a float"):
+            Polytope(points=[(1, 0)]).lp((1, 0.5))
+
+    def test_names_that_are_none_say_what_comes_near(self):
+        p = Polytope(points=[(1, 0)])
+        for name, told in [
+            ("VOLUME", "a Polytope has no 'VOLUME': volumes are not computed here; PLACING_TRIANGULATION has simplices"),
+            ("MAX_VALUE", "of a linear program MAXIMAL_VALUE is meant"),
+            ("Facets", "a Polytope has no 'Facets': is FACETS meant"),
+            ("FACET", "is FACETS meant"),
+        ]:
+            with self.assertRaisesRegex(AttributeError, told):
+                getattr(p, name)
+        with self.assertRaisesRegex(nevolimush.UnknownProperty, "a Polytope has no property 'RAYS': is VERTICES meant"):
+            p.lookup("RAYS")
+        with self.assertRaisesRegex(nevolimush.UnknownProperty, "a LinearProgram has no property 'MAX_VALUE': of a linear program MAXIMAL_VALUE"):
+            p.lp((0, 1)).origin("MAX_VALUE")
+        with self.assertRaisesRegex(nevolimush.UnknownRule, "no rule of the book has the label 'no_such_rule'"):
+            p.disable("no_such_rule")
 
     def test_what_is_refused_takes_no_place(self):
         with nevolimush.Session() as where:
