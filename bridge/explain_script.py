@@ -1,7 +1,7 @@
 """Runs the program on a script and says on standard error, in words, what is refused of it.
 
 What the program reads and writes goes on byte for byte: the script from standard input, the replies
-to standard output.
+to standard output. On a terminal alone a mark in a reply that it would obey is written out.
 """
 
 import argparse
@@ -12,6 +12,7 @@ import threading
 
 from explaining import Telling, place_in
 from refusals import told_path
+from terminal import Screen
 
 BLOCK = 65536
 
@@ -50,10 +51,11 @@ def written(file, block):
 class Run:
     """The program between standard input and standard output."""
 
-    def __init__(self, words, name):
+    def __init__(self, words, name, is_told):
         how = {"stdin": subprocess.PIPE, "stdout": subprocess.PIPE}
         self.program = subprocess.Popen(words, **how)
-        self.telling = Telling(say, place_in(name))
+        self.telling = Telling(say if is_told else lambda _: None, place_in(name))
+        self.screen = Screen() if os.isatty(1) else None
         self.is_input_lost = self.is_output_lost = False
 
     def feed(self):
@@ -79,7 +81,7 @@ class Run:
         """Writes what the program writes, and explains it."""
         lines, from_program = Lines(), self.program.stdout.fileno()
         while block := os.read(from_program, BLOCK):
-            if not written(1, block):
+            if not written(1, self.screen.of(block) if self.screen else block):
                 self.is_output_lost = True
                 break
             for line in lines.of(block):
@@ -103,11 +105,12 @@ def main():
     words = argparse.ArgumentParser(prog="bridge/explain-script", description=__doc__.splitlines()[0])
     words.add_argument("--program", required=True, metavar="PATH", help="the built program")
     words.add_argument("--name", metavar="FILE", help="the file that standard input is")
+    words.add_argument("--silent", action="store_true", help="say nothing of what is refused")
     words.add_argument("words", metavar="WORD", nargs="*", help="the words of the program, behind --")
     options = words.parse_args()
     name = told_path(options.name) if options.name else None
     try:
-        status = Run([options.program, *options.words], name).status()
+        status = Run([options.program, *options.words], name, not options.silent).status()
     except KeyboardInterrupt:
         status = 130
     # (the thread may still wait for standard input)

@@ -7,6 +7,7 @@ from dataclasses import dataclass, field
 from pathlib import Path
 
 from . import finding
+from .refusals import printable
 
 TYPES = {"polytope::Polytope<Rational>": "Polytope", "polytope::Cone<Rational>": "Cone", "fan::PolyhedralFan<Rational>": "Fan"}
 
@@ -85,4 +86,4 @@ def by_bridge(path):
 
 def read_over(lines):
     """What `load` says that it read over."""
-    return [f"read over: {lines[0].removeprefix('ok ignored ')}"] if lines[0].startswith("ok ignored ") else []
+    return [f"read over: {printable(lines[0].removeprefix('ok ignored '))}"] if lines[0].startswith("ok ignored ") else []

@@ -16,6 +16,7 @@ from unittest import mock
 import build_backend
 import nevolimush
 from nevolimush import Cone, Fan, NoChain, Polytope, Session, cube, finding, load
+from nevolimush.refusals import refusal_of
 from test_objects import WIDE_POINTS
 
 PYTHON = Path(__file__).resolve().parents[1]
@@ -124,6 +125,16 @@ class Files(unittest.TestCase):
     def test_names_that_are_read_over(self):
         path = self.write("p.json", '{"_type":"polytope::Polytope<Rational>","_profile":2,"_computed":[],"_excluded":[],"POINTS":[["1","0"]],"LABELS":[]}')
         self.assertEqual(load(path).notes, ["read over: LABELS"])
+
+    def test_marks_that_a_terminal_obeys_are_not_handed_on(self):
+        """The program leaves DEL, C1 and marks of direction in the names that it read over."""
+        marks = ["\x7f", "\x85", "\x9b", "\u200e", "\u202e", "\u2028", "\u2066", "\ufeff", "\u061c"]
+        for mark in marks:
+            name = f"x{mark}y"
+            path = self.folder / "p.json"
+            path.write_text(json.dumps({"_type": "polytope::Polytope<Rational>", "_profile": 2, "_computed": [], "_excluded": [], "POINTS": [["1", "0"]], name: 0}))
+            self.assertEqual(load(path).notes, [f"read over: {json.dumps(name)}"])
+            self.assertEqual(str(refusal_of([f"no 13 BadFile {name}"])).split(": ")[0], f"13 BadFile {json.dumps(name)[1:-1]}")
 
     def test_files_that_are_none(self):
         with self.assertRaisesRegex(nevolimush.BadForm, "bad.txt: .*no fraction|bad.txt: .*known"):
