@@ -9,6 +9,7 @@ import book_fault
 import lost_steps
 import plans
 import why
+from calls import bridge
 from evidence import Values
 from explaining import REFUSED, Explainer, Line, Pairing
 from properties import PROGRAM_PROPERTIES, TYPES, Thing, by_name
@@ -106,6 +107,7 @@ EXPLAINED = [
     ("make p cube 3\nok\npyramid p q\nok\nensure q H_VECTOR\nno 10 NoChain", "'explain q H_VECTOR' tells which are barred and why"),
     ("load p nowhere.json\nno 14 NoSuchFile", "there is no file 'nowhere.json' in this folder"),
     ("load p f\nno 13 BadFile BadProperty POINTS shape", "'f': the value of this key has a fault ('BadProperty POINTS shape')"),
+    ("load p f\nno 13 BadFile NotJson", f"'f': the file is no JSON: {bridge('from-rows')} --data writes one of rows of numbers"),
     (POLYTOPE + "disable p nothing\nno 16 UnknownRule", "no rule or client is called 'nothing'"),
     ("make p simplex 2\nok\npolar p q\nno 17 NotFit CENTERED", "with the origin in their interior alone (CENTERED)"),
     ("make p cube 33\nno 17 NotFit size", "it is larger than is taken (size)"),

@@ -23,6 +23,8 @@ ABSENT = {
     "N_INPUT_RAYS": f"{COUNTED}: N_RAYS is the number of extreme rays",
     "N_INEQUALITIES": f"{COUNTED}: N_FACETS is the number of facets",
     "FACE_LATTICE": "HASSE_DIAGRAM has the faces of each rank",
+    "NORMAL_FAN": "the command normalfan makes it as an object of its own, in Python normal_fan()",
+    "FACE_FAN": "the command facefan makes it as an object of its own, in Python face_fan()",
     "EDGES": "GRAPH has for each vertex its neighbours, and N_EDGES is the number of edges",
     "G_VECTOR": "it has the differences of the first half of H_VECTOR",
     "MAX_VALUE": "of a linear program MAXIMAL_VALUE is meant",

@@ -47,6 +47,8 @@ class Asked:
 
     def no_name(self, word):
         """What is said of a word that has not the form of a property's name."""
+        if Path(word).exists():
+            return f"{told_path(word)} is a file, where a property is wanted: one file is asked about at a time"
         known = [*by_name(self.thing.type_name), *PROGRAM_PROPERTIES]
         near = difflib.get_close_matches(word.upper(), known, 1, 0.5)
         hint = f"is {near[0]} meant? " if near else ""

@@ -7,6 +7,7 @@ from pathlib import Path
 
 import absent
 import value_faults
+from calls import bridge
 from properties import PAIRS, PROGRAM_PROPERTIES, TYPES, Property, by_name
 from spoken import COMMANDS, cut, fault_of_line, is_meant, is_silent, nearest
 
@@ -36,7 +37,7 @@ CONDITIONS = {
 
 FILE_REASONS = {
     "Limit": "the file has more than 8,388,608 bytes",
-    "NotJson": "the file is no JSON: ./polymake FILE reads rows of numbers and files of other programs",
+    "NotJson": "the file is no JSON: ROWS --data writes one of rows of numbers, and ./polymake FILE PROP.. reads files of other programs too",
     "NoType": "the file has no text '_type'",
     "UnknownType": "its '_type' is none of " + ", ".join(TYPES.values()),
     "BadProperty": "the value of this key has a fault",
@@ -275,7 +276,8 @@ class Explainer:
 
     def bad_file(self, line, reason):
         first = reason.partition(" ")[0]
-        return f"{cut(line.words[-1])}: {FILE_REASONS.get(first, 'it holds no object')} ({cut(reason)})"
+        told = FILE_REASONS.get(first, "it holds no object").replace("ROWS", bridge("from-rows"))
+        return f"{cut(line.words[-1])}: {told} ({cut(reason)})"
 
     def no_such_file(self, line, _):
         return f"there is no file {cut(line.words[-1])} in this folder"
