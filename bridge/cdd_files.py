@@ -13,7 +13,8 @@ from scripts import script_lines
 HALF_SPACES, GENERATORS = "H-representation", "V-representation"
 
 # How a file of cddlib goes on where its representation is left out: 'begin' on a line, and the size below it.
-BEGIN = re.compile(r"^[ \t]*begin[ \t]*(?:\r\n|\r|\n)\s*[0-9*]+[ \t]+[0-9]+[ \t]+(?:integer|rational|real)\b", re.M | re.A)
+SIZE = r"[0-9*]+[ \t]+[0-9]+[ \t]+(?:integer|rational|real)\b"
+BEGIN = re.compile(rf"^[ \t]*begin[ \t]*(?:\r\n|\r|\n)\s*{SIZE}", re.M | re.A)
 
 # Options that steer a computation or what is printed.
 HARMLESS = set(

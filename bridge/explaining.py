@@ -37,7 +37,8 @@ CONDITIONS = {
 
 FILE_REASONS = {
     "Limit": "the file has more than 8,388,608 bytes",
-    "NotJson": "the file is no JSON: ROWS --data writes one of rows of numbers, and ./polymake FILE PROP.. reads files of other programs too",
+    "NotJson": "the file is no JSON: ROWS --data writes one of rows of numbers, and ./polymake FILE PROP.. reads "
+    "files of other programs too",
     "NoType": "the file has no text '_type'",
     "UnknownType": "its '_type' is none of " + ", ".join(TYPES.values()),
     "BadProperty": "the value of this key has a fault",

@@ -1,4 +1,4 @@
-"""Where an elimination of rows comes to a number of more than 127 bits, in words, by the evidence E1 of a rule that failed."""
+"""Where an elimination of rows comes to a number of more than 127 bits, in words, by the evidence E1 of a rule."""
 
 import json
 import re
@@ -20,7 +20,7 @@ def shown_in(lines):
 
 
 def eliminated(values, sources):
-    """The lists of rows that a rule with these sources may eliminate: those of a description, and of its doubled form."""
+    """The lists of rows that a rule with these sources may eliminate: of a description, and of its double list."""
     for first, second, lines, others in values.parts():
         if first in sources and second in sources:
             double = both_signs(echelon(lines)[0]) + others

@@ -262,5 +262,6 @@ def fault_of_line(line):
     if re.match(r"\s*[-+.]?[0-9\[(]", line):
         return "a row of numbers is no command: 'take p POINTS [[1,0],[1,1]]' gives rows, and a file of rows has no commands"
     if ";" in line:
-        return f"{fault_of(line.partition(';')[0].rstrip()) or fault_of(line)}; each command takes a line of its own, without ';'"
+        fault = fault_of(line.partition(";")[0].rstrip()) or fault_of(line)
+        return f"{fault}; each command takes a line of its own, without ';'"
     return fault_of(line)

@@ -1,4 +1,4 @@
-"""Texts as a terminal may show them: a mark that it would obey, or that turns what stands behind it, is written out."""
+"""Texts as a terminal may show them: a mark that it would obey, or that turns the writing, is written out."""
 
 import codecs
 import json

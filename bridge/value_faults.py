@@ -104,7 +104,8 @@ def whole_fault(entry, is_index):
     text = str(entry)
     if isinstance(entry, (bool, list, dict)) or entry is None or not re.fullmatch(r"-?[0-9]{1,100}", text):
         found = hint(text)
-        return f"{shown(text)} is no whole number that is taken" + (f": write {found}" if found.lstrip("-").isdigit() else "")
+        meant = f": write {found}" if found.lstrip("-").isdigit() else ""
+        return f"{shown(text)} is no whole number that is taken{meant}"
     if is_index and int(text) < 0:
         return f"{text} is below 0, and places count from 0"
     return None

@@ -146,7 +146,9 @@ class Told:
         """Where an elimination of the rule left 127 bits, in words, or None."""
         lines = self.session.ask(f"evidence {self.name} {rule.label}")[1:]
         sources = [it for it in rule.sources if not it.startswith("LP.")]
-        return lost_steps.told(self.values(sources), sources, lines, lambda it: self.names([it])) if self.columns else None
+        if not self.columns:
+            return None
+        return lost_steps.told(self.values(sources), sources, lines, lambda it: self.names([it]))
 
     def names(self, rule_names):
         """The names of a rule, as the object's type has them."""

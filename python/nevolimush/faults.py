@@ -28,7 +28,7 @@ EXPECTED = {
 }
 A_NUMBER = "int, Fraction, or a text p or p/q, with numbers of at most 127 bits"
 
-# The matrices in which no row is zero, those whose rows begin with no negative number, and those whose rows begin with 0.
+# The matrices in which no row is zero, those whose rows begin with no negative number, and those that begin with 0.
 WITHOUT_ZERO = ("VERTICES", "FACETS")
 OF_POINTS = ("POINTS", "VERTICES")
 OF_LINES = ("INPUT_LINEALITY", "LINEALITY_SPACE")
@@ -109,14 +109,20 @@ def cut(value):
     return text if len(text) <= MOST_SHOWN else f"{text[:MOST_SHOWN]}.."
 
 
+def meant(text):
+    """A hint at the fraction that a number in another writing is, as .5, 0.5, 5. and +1/2."""
+    is_signed = text[:1] == "+" and number_fault(text[1:]) is None
+    if len(text) <= MOST_SHOWN and (OTHERWISE.fullmatch(text) or is_signed):
+        return f": write {str(Fraction(text))!r}"
+    return ""
+
+
 def number_fault(entry):
     """Why an entry is no number that is taken, or None."""
     text = str(entry)
     found = NUMBER.fullmatch(text)
-    if not found and len(text) <= MOST_SHOWN and (OTHERWISE.fullmatch(text) or text[:1] == "+" and number_fault(text[1:]) is None):
-        return f"{cut(text)} is no fraction: write {str(Fraction(text))!r}"
     if not found:
-        return f"{cut(text)} is no fraction"
+        return f"{cut(text)} is no fraction{meant(text)}"
     if found[2] is not None and not found[2].strip("0"):
         return f"{cut(text)} divides by zero"
     if len(text) > MOST_DIGITS:

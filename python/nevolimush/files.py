@@ -86,4 +86,5 @@ def by_bridge(path):
 
 def read_over(lines):
     """What `load` says that it read over."""
-    return [f"read over: {printable(lines[0].removeprefix('ok ignored '))}"] if lines[0].startswith("ok ignored ") else []
+    names = lines[0].removeprefix("ok ignored ")
+    return [f"read over: {printable(names)}"] if names != lines[0] else []

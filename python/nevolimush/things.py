@@ -232,8 +232,8 @@ class Thing(Asked):
             return None
         given = given_in([f"new {HERE} {self.type_name}", *(it.line for it in self._steps or []), line])
         for name in () if given.columns else self.held:
-            item = self._properties[name]
-            columns = columns_in(item.kind, item.first, parsed(self._say(f"lookup {HERE} {name}", changes=False)[0].split(" ", 2)[2]))
+            item, reply = self._properties[name], self._say(f"lookup {HERE} {name}", changes=False)
+            columns = columns_in(item.kind, item.first, parsed(reply[0].split(" ", 2)[2]))
             if columns is not None:
                 return replace(given, columns={name: columns})
         return given

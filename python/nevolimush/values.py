@@ -62,7 +62,10 @@ def copied(value):
 
 
 class BadEntry(TypeError):
-    """What is given is no value of a property, by its type: `property`, and `row` and `column` from 0 where they are known."""
+    """What is given is no value of a property, by its type.
+
+    `property` is the name of the property, `row` and `column` are the places from 0 where they are known.
+    """
 
     def __init__(self, told, name="", row=None, column=None):
         places = [("row", row), ("column" if row is not None else "place", column)]
@@ -87,7 +90,8 @@ def entry_of(number):
         told = f"{number} is a float, which is seldom the number that is meant"
         if not math.isfinite(number):
             raise TypeError(told)
-        raise TypeError(f"{told}: give a Fraction, as Fraction({str(number)!r}), or a text, as {str(Fraction(str(number)))!r}")
+        exact = str(Fraction(str(number)))
+        raise TypeError(f"{told}: give a Fraction, as Fraction({str(number)!r}), or a text, as {exact!r}")
     if not hasattr(number, "numerator") or not hasattr(number, "denominator"):
         raise TypeError(f"{number!r} is no number that is taken: give int, Fraction, or a text as '1/2'")
     top, bottom = part_of(number, "numerator"), part_of(number, "denominator")
@@ -121,7 +125,8 @@ def plain(value, name="", at=()):
     if hasattr(value, "__iter__") and not isinstance(value, (str, bytes)):
         return [plain(it, name, (*at, place)) for place, it in enumerate(value)]
     if isinstance(value, float):
-        raise BadEntry(f"{value} is a float, where a whole number is wanted", name, *(at if len(at) != 1 else (None, *at))[:2])
+        row, column = (at if len(at) > 1 else (None, *at, None))[:2]
+        raise BadEntry(f"{value} is a float, where a whole number is wanted", name, row, column)
     return int(value) if hasattr(value, "__index__") else value
 
 
