@@ -202,6 +202,8 @@ def check_lost_steps(check):
         said = lost_steps.told(values, sources.split(", "), [line])
         is_so = said is None if told is None else said is not None and told in said
         check.is_so(f"a step that is lost, of {held}", is_so, f"{said!r}, without {told!r}")
+    many = Values("Cone", 2, {"POINTS": [*WIDE_ROWS, *([1, it] for it in range(lost_steps.MOST_ENTRIES // 2))], "INPUT_LINEALITY": []})
+    check.same("a step among very many rows", lost_steps.told(many, ("POINTS", "INPUT_LINEALITY"), [OF_ROWS]), None)
 
 
 def check_whys(check):

@@ -8,6 +8,9 @@ from evidence_rows import both_signs, echelon, enlarging
 
 LINE = re.compile(r"evidence \S+(?: @\S+)? E1 (\{.*\})")
 
+# How many entries the rows may have that are eliminated here once more: these take a second or two.
+MOST_ENTRIES = 20_000
+
 
 def shown_in(lines):
     """What the first line of this evidence shows, or None where no line shows any."""
@@ -22,7 +25,8 @@ def shown_in(lines):
 def eliminated(values, sources):
     """The lists of rows that a rule with these sources may eliminate: of a description, and of its double list."""
     for first, second, lines, others in values.parts():
-        if first in sources and second in sources:
+        is_few = len(lines + others) * values.cols <= MOST_ENTRIES
+        if first in sources and second in sources and is_few:
             double = both_signs(echelon(lines)[0]) + others
             yield first, second, lines + others
             yield first, second, double
