@@ -97,8 +97,10 @@ class Given:
 
 
 def reason(number, text):
-    """What the reason of a refusal says, or None."""
-    return REASONS.get(number, {}).get(text.partition(" ")[0])
+    """What the reason of a refusal says, or None; of a value in a file also the reason that the value has."""
+    first, *_, last = text.split(" ") if " " in text else (text, "")
+    told = REASONS.get(number, {}).get(first)
+    return f"{told}: {REASONS[6][last]}" if told and last in REASONS[6] else told
 
 
 def cut(value):

@@ -502,7 +502,9 @@ class Polytope(Thing):
         session = self._session
         session._ready(self)
         if not self._keep():
-            raise refusal_of(["no 9 ObjectsFull"])
+            found = refusal_of(["no 9 ObjectsFull"])
+            found.when = "a polytope has at most four linear programs, and this one is too large to be saved without them"
+            raise found
         text = json.loads(self._steps[0].file)
         text.pop("LP", None)
         self._steps[0].file = json.dumps(text, separators=(",", ":")).encode()

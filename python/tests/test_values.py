@@ -134,6 +134,9 @@ class Table(unittest.TestCase):
             for reason, text in told.items():
                 found = refusals.refusal_of([f"no {number} {REFUSALS[number][0]} {reason}"])
                 self.assertEqual(str(found), f"{number} {REFUSALS[number][0]} {reason}: {text}")
+        found = refusals.refusal_of(["no 13 BadFile BadProperty POINTS number"])
+        told = "the value of this key has a fault: a number is out of bounds, or no fraction"
+        self.assertEqual(str(found), f"13 BadFile BadProperty POINTS number: {told}")
 
 
 class Numbers(unittest.TestCase):
