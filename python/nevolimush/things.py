@@ -127,7 +127,10 @@ class Thing(Asked):
     # What a bridge said of the file that it was read from, and what is believed of the file.
     notes, believed = [], []
 
-    def __init__(self, *, session=None, **given):
+    def __init__(self, *rows, session=None, **given):
+        if rows:
+            words = " or ".join(f"{self.type_name}({word}=[..])" for word in list(self._words)[:2])
+            raise TypeError(f"a word says what the rows are: {words}")
         self._begin(session or current())
         steps = [Step(f"new {HERE} {self.type_name}")]
         for name, value in self._given(given):
@@ -446,11 +449,11 @@ class Polytope(Thing):
     # The rows that affine=True completes, by their first entry.
     _first = {"POINTS": 1, "VERTICES": 1, "SITES": 1, "INPUT_LINEALITY": 0, "LINEALITY_SPACE": 0}
 
-    def __init__(self, *, session=None, affine=False, **given):
+    def __init__(self, *rows, session=None, affine=False, **given):
         if affine:
             given = {word: self._homogeneous(self._name_of(word, given), rows) for word, rows in given.items()}
         try:
-            super().__init__(session=session, **given)
+            super().__init__(*rows, session=session, **given)
         except BadValue as refusal:
             if affine and refusal.property in self._first:
                 refusal.without_first_column()

@@ -210,6 +210,9 @@ class Given(unittest.TestCase):
     def test_words_that_are_none(self):
         with self.assertRaisesRegex(TypeError, "takes no 'point': is points meant"):
             Polytope(point=[])
+        for make, told in [(Polytope, r"Polytope\(points=\[\.\.\]\) or Polytope\(inequalities"), (Cone, r"Cone\(rays="), (Fan, r"Fan\(rays=")]:
+            with self.assertRaisesRegex(TypeError, f"a word says what the rows are: {told}"):
+                make([(1, 0)])
         with self.assertRaisesRegex(TypeError, "given twice"):
             Polytope(points=[], POINTS=[])
         with self.assertRaisesRegex(AttributeError, "a Cone has no 'VERTICES': is RAYS meant"):
