@@ -6,6 +6,7 @@ from entries import hint
 
 TOKEN = re.compile(r"[-+.0-9A-Za-z_/]+")
 FRACTION = re.compile(r"-?[0-9]+/[0-9]+", re.ASCII)
+OF_JSON = re.compile(r"-?(?:0|[1-9][0-9]*)(?:\.[0-9]+)?(?:[eE][-+]?[0-9]+)?|true|false|null", re.ASCII)
 WORDS = {"true": "true", "false": "false"}
 
 # How many digits a whole number has that the program surely takes without quotes, and one more.
@@ -22,6 +23,8 @@ def token_at(text, at):
 
 def meant(word):
     """What is meant by a word, or None where nothing is known that comes near."""
+    if OF_JSON.fullmatch(word):
+        return None
     if FRACTION.fullmatch(word):
         return f'{word} without quotes: a fraction is a text, "{word}"'
     if word.lower() in WORDS:
