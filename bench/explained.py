@@ -4,11 +4,11 @@ import re
 from types import SimpleNamespace
 
 import bridges
-import absent
 import book_fault
 import lost_steps
 import plans
 import why
+from absent import ABSENT
 from calls import bridge
 from evidence import Values
 from explaining import REFUSED, Explainer, Line, Pairing
@@ -278,7 +278,7 @@ def check_session(check, name, text):
 def check_absent(check):
     """The names that are not had are none, and those that come near are properties."""
     known = {*PROGRAM_PROPERTIES, *(name for type_name in TYPES for name in by_name(type_name))}
-    for word, told in absent.ABSENT.items():
+    for word, told in ABSENT.items():
         near = set(re.findall(r"[A-Z][A-Z_]+", told))
         check.is_so(f"the absent property {word}", word not in known and near <= known, told)
 

@@ -17,7 +17,7 @@ ABSENT = {
     "HILBERT_BASIS": LATTICE,
     "GROUP": GROUPS,
     "AUTOMORPHISMS": GROUPS,
-    "DIM": "CONE_DIM is the dimension of a cone, and of a polytope that dimension and 1",
+    "DIM": "CONE_DIM is the dimension of a cone, and of a polytope its dimension plus 1",
     "AMBIENT_DIM": "CONE_AMBIENT_DIM is the number of columns, of a polytope one more than its coordinates",
     "N_POINTS": f"{COUNTED}: N_VERTICES is the number of vertices",
     "N_INPUT_RAYS": f"{COUNTED}: N_RAYS is the number of extreme rays",
@@ -32,8 +32,3 @@ ABSENT = {
     "MAXIMAL_VERTEX": "of a linear program MAXIMAL_FACE has the places of the vertices where it has its maximum",
     "MINIMAL_VERTEX": "of a linear program MINIMAL_FACE has the places of the vertices where it has its minimum",
 }
-
-
-def told(word):
-    """What is said of a name behind a colon, or nothing."""
-    return f": {ABSENT[word]}" if word in ABSENT else ""

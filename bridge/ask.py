@@ -9,13 +9,13 @@ import sys
 import tempfile
 from pathlib import Path
 
-import absent
 import agreeing
 import command
 import looks
 import plans
 import value_faults
 import why
+from absent import ABSENT
 from calls import wrapper
 from polymake_files import data_text, read_polymake
 from properties import PAIRS, PROGRAM_PROPERTIES, Kind, by_name
@@ -223,9 +223,10 @@ def tell_unknown(asked, name, in_program):
     known = PROGRAM_PROPERTIES if in_program else by_name(asked.thing.type_name)
     kind = "linear programs" if in_program else f"{asked.thing.type_name.lower()}s"
     near = difflib.get_close_matches(name, known, 1, 0.5)
-    hint = f": is {near[0]} meant? " if near else ": "
-    hint = f"{absent.told(name)}; " if absent.told(name) else hint
-    say(f"{name} is no property of {kind}{hint}docs/properties.md has all of them")
+    hint = f"is {near[0]} meant? " if near else ""
+    if name in ABSENT:
+        hint = f"{ABSENT[name]}; "
+    say(f"{name} is no property of {kind}: {hint}docs/properties.md has all of them")
 
 
 def tell_refusal(asked, reference, name, reply):

@@ -5,8 +5,8 @@ from collections import deque
 from dataclasses import dataclass, field
 from pathlib import Path
 
-import absent
 import value_faults
+from absent import ABSENT
 from calls import bridge
 from properties import PAIRS, PROGRAM_PROPERTIES, TYPES, Property, by_name
 from spoken import COMMANDS, cut, fault_of_line, is_meant, is_silent, nearest
@@ -223,7 +223,8 @@ class Explainer:
         other = self.name_here(line.words[1], word)
         if other:
             return f"{cut(word)} is no property of {of}: {other} is what it is called there"
-        return f"{cut(word)} is no property of {of}{absent.told(word) or is_meant(word, known)}"
+        hint = f": {ABSENT[word]}" if word in ABSENT else is_meant(word, known)
+        return f"{cut(word)} is no property of {of}{hint}"
 
     def name_here(self, reference, word):
         """What another type's property is called in the type of this object."""

@@ -172,11 +172,11 @@ def reason(told, exclusion):
     shown = EVIDENCE.get(exclusion.what, "it cannot go on")
     if exclusion.what == "E5" and rule.client == OF_FACES:
         shown = TOO_MANY_FACES
-    step = told.lost_step(rule) if exclusion.what == "E1" else None
     if exclusion.what in OF_NUMBERS and rule.label.endswith(OF_WIDE):
-        shown, step = STILL_TOO_WIDE, None
-    elif step is not None:
-        shown = f"a number of more than 127 bits comes up {step}"
+        shown = STILL_TOO_WIDE
+    elif exclusion.what == "E1":
+        step = told.lost_step(rule)
+        shown = f"a number of more than 127 bits comes up {step}" if step else shown
     return f"{finds(told, rule)} failed{place} by {exclusion.what}: {shown}"
 
 
