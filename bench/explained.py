@@ -67,6 +67,7 @@ EXPLAINED = [
     (POLYTOPE + "give p.a MAXIMAL_VALUE\nno 2 UnknownName", "p has no linear program 'a': it has none"),
     (POLYTOPE + "new p Cone\nno 3 NameTaken", "'p' is there already"),
     (POLYTOPE + "take p POINTS [[1,0.5]]\nno 6 BadValue number", "POINTS: row 1, entry 2: '0.5' is no fraction: write \"1/2\""),
+    (POLYTOPE + "take p POINTS [[1,0],[1,1],]\nno 6 BadValue json", "behind row 2: a comma stands before the closing bracket"),
     (POLYTOPE + "take p POINTS [[1,.5],[1,1]]\nno 6 BadValue json", "row 1, entry 2: .5 is no number of JSON: write \"1/2\""),
     (POLYTOPE + "take p POINTS [[1,0],[1,5.]]\nno 6 BadValue json", "row 2, entry 2: 5. is no number of JSON: write 5"),
     (POLYTOPE + "take p POINTS [[1,+1/2]]\nno 6 BadValue json", "row 1, entry 2: +1/2 is no number of JSON: write \"1/2\""),

@@ -8,6 +8,7 @@ TOKEN = re.compile(r"[-+.0-9A-Za-z_/]+")
 FRACTION = re.compile(r"-?[0-9]+/[0-9]+", re.ASCII)
 OF_JSON = re.compile(r"-?(?:0|[1-9][0-9]*)(?:\.[0-9]+)?(?:[eE][-+]?[0-9]+)?|true|false|null", re.ASCII)
 WORDS = {"true": "true", "false": "false"}
+TRAILING = re.compile(r",\s*[\]}]")
 
 # How many digits a whole number has that the program surely takes without quotes, and one more.
 MOST_PLAIN = 19
@@ -38,6 +39,9 @@ def meant(word):
 
 def meant_at(text, at):
     """What is meant by the word at this place, and where that begins; or None and the place itself."""
+    comma = at if text[at : at + 1] == "," else len(text[:at].rstrip()) - 1
+    if comma >= 0 and TRAILING.match(text, comma):
+        return "a comma stands before the closing bracket", at
     found = token_at(text, at)
     told = meant(found[0]) if found else None
     return (told, found.start()) if told else (None, at)

@@ -5,6 +5,7 @@ from dataclasses import dataclass, field
 from fractions import Fraction
 
 import command
+from calls import bridge
 from entries import decimal_of
 from polymake_files import data_text
 from properties import Program, Thing
@@ -202,7 +203,7 @@ def tell_part(part, type_name, notes):
     told = f"{counted(len(part.rows), what)} with {counted(len(part.rows[0]), entry)} each"
     notes.tell(part.line, told)
     if what == "point" and not part.is_said and is_like_homogeneous(part.rows):
-        meant = "rows (1, x) are meant by the heading POINTS, or with --homogeneous"
+        meant = f"rows (1, x) stand below a line 'POINTS', or are read by {bridge('from-rows')} --homogeneous"
         notes.tell(part.line, f"each row begins with 1, which is taken as a coordinate: {meant}")
 
 
