@@ -185,7 +185,9 @@ class Explainer:
         for word in line.words[1:2]:
             name, _, sub = word.partition(".")
             if sub and name in self.objects:
-                known = ", ".join(sorted(self.objects[name].programs)) or "none"
+                thing = self.objects[name]
+                makes = f", and 'new {word} LP' makes one" if thing.type_name == "Polytope" else ""
+                known = ", ".join(sorted(thing.programs)) or f"none{makes}"
                 return f"{name} has no linear program {cut(sub)}: it has {known}"
         word = words[0] if words else line.words[1]
         known = ", ".join(sorted(self.objects)) or "none"
