@@ -5,7 +5,6 @@ use Rattle.pm_vector.proofs.RowLaws.{dot_comm, entry-opposite}
 use Rattle.pm_vector.specs.Cones.{InSpan}
 use Rattle.pm_vector.specs.Rows.{Row, entry, opposite}
 use Rattle.pm_vector.specs.Bases.{column, row_at}
-use Rattle.pm_laws_placing.proofs.LeastSums.{bool_cases}
 use Rattle.pm_laws_placing.specs.Placing.{places_marked, stated_places}
 use Rattle.pm_geom.specs.Triangulations.{rows_at}
 use Rattle.pm_dd.proofs.LeadingLaws.{arrangement}
@@ -24,6 +23,7 @@ use Rattle.std.proofs.lemmas.Int.{ints}
 use Rattle.std.proofs.lemmas.List.{append_assoc, length-drop}
 use lib.IntN.{pos}
 use lib.Signed.{◌<ℤ◌}
+use Rattle.std.proofs.lemmas.Bool.{cases_Bool}
 
 -- ---- rows with a mark are the rows at the places with it
 head_at : (G X : List Row) (x : Row) (i : ℕ) → ((k : ℕ) → k < length (x ∷ G) → ray X (i + k) ≡ row_at (x ∷ G) k) → ray X i ≡ x
@@ -63,7 +63,7 @@ lead A (b ∷ B) G (m ∷ []) f l x = absurd (omega arith)
 lead A (b ∷ B) G (m ∷ k ∷ marks) f l x =
     let e : suc (suc (2 * length B)) ≡ 2 * suc (length B) = omega arith in
     let first : m ≡ true = true_of m ((x 0 (omega arith)).1 (λ h. f.0 (subst (λ (Z : List Row). InSpan Z b) (append-nil A) h))) in
-    let second : k ≡ false = elim (bool_cases k) [ inl t ↦ absurd ((x 1 (omega arith)).0 t (no_second A b)) | inr n ↦ n ] in
+    let second : k ≡ false = elim (cases_Bool k) [ inl t ↦ absurd ((x 1 (omega arith)).0 t (no_second A b)) | inr n ↦ n ] in
     let rest = lead (A ++ b ∷ opposite b ∷ []) B G marks f.1 (omega arith) (λ i li. let w = x (suc (suc i)) (omega arith) in let q = append_assoc A (b ∷ opposite b ∷ []) (take i (both_signs B ++ G)) in
     (λ t h. w.0 t (subst (λ (Z : List Row). InSpan Z (row_at (both_signs B ++ G) i)) q h), λ n. w.1 (λ h. n (subst (λ (Z : List Row). InSpan Z (row_at (both_signs B ++ G) i)) (sym q) h)))) in
     ap (λ (z : Bool). z ∷ k ∷ marks) first ∙ ap (λ (z : Bool). true ∷ z ∷ marks) second ∙ ap (λ (Z : List Bool). true ∷ false ∷ Z) rest ∙ ap (λ (j : ℕ). true ∷ false ∷ (alternating B ++ drop j (m ∷ k ∷ marks))) e

@@ -2,7 +2,6 @@
 use Rattle.pm_vector.proofs.Filters.{among_filter, filter_among}
 use Rattle.pm_vector.proofs.Lists.{AllPairs_cons, All_among, Among, Contains_among, among_All, among_Contains, among_append, among_append_left, among_append_right, here, there}
 use Rattle.pm_vector.specs.Rows.{Row, dot, entry}
-use Rattle.pm_laws_placing.proofs.LeastSums.{bool_cases}
 use Rattle.pm_laws_placing.proofs.Places.{Distinct, Rising, rising_distinct, rising_of}
 use Rattle.pm_beneath.specs.CellLists.{IsFacetTable, ListedCellsAreNext, cells_below, joined_cells}
 use Rattle.pm_laws_placing.specs.Placing.{IsExchange, IsNextCells, IsOnlyOff}
@@ -12,7 +11,7 @@ use Rattle.pm_geom.specs.Graphs.{IsAscending}
 use Rattle.std.specs.Prelude.{ℕ, zero, suc, ◌+◌, ◌<◌, ◌≤◌, ◌==◌, ◌≡◌, ◌⊎◌, Bool, true, false, cond, List, [], ◌∷◌, ◌++◌, length}
 use Rattle.std.specs.List.{All, AllPairs, Contains, filter, slice_index_or}
 use Rattle.std.proofs.Common.{T, arith, ap, refl, sym, subst, inl, inr}
-use Rattle.std.proofs.lemmas.Bool.{eq-eqb, eqb-true}
+use Rattle.std.proofs.lemmas.Bool.{cases_Bool, eq-eqb, eqb-true}
 use lib.IntN.{ℤ, pos}
 use lib.Signed.{◌<ℤ◌, lt_z, lt_z_yes}
 
@@ -231,7 +230,7 @@ module _ (J F : List Row) (vs : List ℤ) (Z : List (List Bool)) (f : ℕ) (T : 
           )
 
       unset : (i : ℕ) → i < length F → (s : List ℕ) → Among s T → (k : ℕ) → Among k s → ¬ (dot (ray F i) (ray J k) ≡ pos 0) → has (slice_index_or Z i []) k ≡ false
-      unset i l s is k ks n = elim (bool_cases (has (slice_index_or Z i []) k)) [ inl h ↦ absurd (n (on_facet i l s is k ks h)) | inr h ↦ h ]
+      unset i l s is k ks n = elim (cases_Bool (has (slice_index_or Z i []) k)) [ inl h ↦ absurd (n (on_facet i l s is k ks h)) | inr h ↦ h ]
 
       joined_at : (q : ℕ) → q < length F → (s : List ℕ) (i : ℕ) → dot (ray F q) (ray J f) <ℤ pos 0 → Among s T → IsOnlyOff J (ray F q) s i → (u : List ℕ) × Contains (T ++ cells_below vs Z f T) u × IsExchange s i f u
       joined_at q l s i below is off =

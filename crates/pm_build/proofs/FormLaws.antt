@@ -19,7 +19,7 @@ use Rattle.pm_types.specs.Forms.{FormsIn, HasPrimitiveRow, HavePrimitiveRows, ag
 use Rattle.pm_types.specs.Values.{PropertyValue, matrix}
 use Rattle.pm_types.specs.Views.{ratios}
 use Rattle.std.proofs.Common.{ap, arith, false, inl, inr, refl, subst, sym, true, true≢false, ◌∙◌}
-use Rattle.std.proofs.lemmas.Bool.{and_parts, eq-eqb, le-leb, leb-true, ltb-true}
+use Rattle.std.proofs.lemmas.Bool.{and_from, and_parts, eq-eqb, le-leb, leb-true, ltb-true, or_right}
 use Rattle.std.proofs.lemmas.List.{length-append}
 use Rattle.std.proofs.lemmas.List.Elements.{All-cons, All-map, All-nil, All-push, All-replicate, All-weaker}
 use Rattle.std.proofs.lemmas.List.Sums.{list_all-from_AllPass}
@@ -69,13 +69,6 @@ primitive_half p h m rows all = absurd h
 all_three : (a b c : Bool) → a ≡ true → b ≡ true → c ≡ true → (a && b && c) ≡ true
 all_three a b c p q r = rw (p, q, r) refl
 
-both_true : (a b : Bool) → a ≡ true → b ≡ true → (a && b) ≡ true
-both_true a b p q = rw (p, q) refl
-
-either_true : (a b : Bool) → b ≡ true → (a || b) ≡ true
-either_true true b p = refl
-either_true false b p = p
-
 good_lengths : (n : ℕ) (test : List Ratio → Bool) (rows : List (List Ratio)) → All (IsGood n test) rows → list_all (is_row_of_entries n) rows ≡ true
 good_lengths n test rows h = list_all-from_AllPass (is_row_of_entries n) rows (All-weaker (IsGood n test) (λ r. is_row_of_entries n r ≡ true) (λ r g. eq-eqb (length r) n g.cols) rows h)
 
@@ -86,8 +79,8 @@ pub good_forms : (n : ℕ) (p : PropId) → IsHalf p → (rows : List (List Rati
 good_forms n p h [] some few all good = record { formed = formed_half p h 0 []; columns = agrees_half p h n 0 []; rows = refl; entries = All-nil (All IsFraction); primitive = primitive_half p h 0 [] (All-nil HasPrimitiveRow) }
 good_forms n p h (r ∷ rows) some few all good = record {
   formed = formed_half p h n (r ∷ rows)
-      ∙ all_three (nat_le (length (r ∷ rows)) most_rows) (is_column_count (r ∷ rows) n) (list_all (is_row_of_entries n) (r ∷ rows)) (le-leb (length (r ∷ rows)) most_rows all) (both_true (nat_le 1 n) (nat_le n most_columns) (le-leb 1 n some) (le-leb n most_columns few)) (good_lengths n (is_row Polytope p) (r ∷ rows) good);
-  columns = agrees_half p h n n (r ∷ rows) ∙ either_true (nat_eq n 0) (nat_eq n n) (eq-eqb n n refl);
+      ∙ all_three (nat_le (length (r ∷ rows)) most_rows) (is_column_count (r ∷ rows) n) (list_all (is_row_of_entries n) (r ∷ rows)) (le-leb (length (r ∷ rows)) most_rows all) (and_from (nat_le 1 n) (nat_le n most_columns) (le-leb 1 n some) (le-leb n most_columns few)) (good_lengths n (is_row Polytope p) (r ∷ rows) good);
+  columns = agrees_half p h n n (r ∷ rows) ∙ or_right (nat_eq n 0) (nat_eq n n) (eq-eqb n n refl);
   rows = good_passes n (is_row Polytope p) (r ∷ rows) good;
   entries = All-weaker (IsGood n (is_row Polytope p)) (λ x. All IsFraction x) (λ x g. g.entries) (r ∷ rows) good;
   primitive = primitive_half p h n (r ∷ rows) (All-weaker (IsGood n (is_row Polytope p)) (λ x. HasPrimitiveRow x) (λ x g. g.primitive) (r ∷ rows) good);

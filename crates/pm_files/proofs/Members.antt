@@ -1,9 +1,9 @@
 -- What stands in a file under a key.
-use Rattle.std.proofs.Common.{refl, sym, ◌∙◌, ◌≡◌, ◌++◌, ◌∷◌, ℕ, List, [], Some, Bool, true, false, bytes_eq, true≢false}
-use Rattle.std.proofs.lemmas.Bool.{and_parts}
+use Rattle.std.proofs.Common.{refl, sym, ◌∙◌, ◌≡◌, ◌++◌, ◌∷◌, ℕ, List, [], Some, true, false, bytes_eq, true≢false}
+use Rattle.std.proofs.lemmas.Bool.{and_parts, not-true}
 use Rattle.std.proofs.lemmas.Slice.Eq.{bytes_eq-Decides}
 use Rattle.std.specs.List.{list_all}
-use Rattle.std.specs.Prelude.{codes, map, not}
+use Rattle.std.specs.Prelude.{codes, map}
 use Rattle.pm_props.specs.Properties.{name_in}
 use Rattle.pm_object_type.specs.declared.object_type.ObjectType.{ObjectType}
 use Rattle.pm_object_type.specs.declared.object_type.ObjectType.TheVariants.{Polytope, Cone, Fan}
@@ -19,10 +19,6 @@ use Rattle.pm_files.specs.ValueJson.{array_of, json_of}
 
 differ : (xs ys : List ℕ) → bytes_eq xs ys ≡ false → xs ≡ ys → ⊥
 differ xs ys h e = true≢false (sym ((bytes_eq-Decides xs ys).1 e) ∙ h)
-
-is_not : (b : Bool) → not b ≡ true → b ≡ false
-is_not true h = sym h
-is_not false h = refl
 
 -- ---- no property has the name of another key
 pub no_programs : (of : ObjectType) (p : PropId) → bytes_eq (name_in of p) (codes "LP") ≡ false
@@ -56,7 +52,7 @@ others of key [] ms h = refl
 others of key (w ∷ vs) ms h =
     let p = and_parts (is_other_name of key w.0) (list_all (λ x. is_other_name of key x.0) vs) h in
     others of key vs (put (name_in of w.0) (json_of w.0 w.1) ms) p.1
-    ∙ get_member-put_other key (name_in of w.0) (json_of w.0 w.1) ms (differ key (name_in of w.0) (is_not (bytes_eq key (name_in of w.0)) p.0))
+    ∙ get_member-put_other key (name_in of w.0) (json_of w.0 w.1) ms (differ key (name_in of w.0) (not-true (bytes_eq key (name_in of w.0)) p.0))
 
 stands : (of : ObjectType) (before after : List (PropId × PropertyValue)) (p : PropId) (v : PropertyValue) (ms : Members) → list_all (λ w. is_other_name of (name_in of p) w.0) after ≡ true
     → get_member (name_in of p) (with_values of (before ++ (p, v) ∷ after) ms) ≡ Some (json_of p v)

@@ -14,7 +14,7 @@ use Rattle.pm_props.specs.declared.set.PropSet.{PropSet}
 use Rattle.pm_types.specs.Views.{view_of}
 use Rattle.pm_types.specs.declared.value.Value.{Value}
 use Rattle.std.specs.List.{All, Contains, list_all, list_any}
-use Rattle.pm_object.proofs.Formed.{agrees_dimension, ambient_is, dimension_of, is_not, nobody, value_among}
+use Rattle.pm_object.proofs.Formed.{agrees_dimension, ambient_is, dimension_of, nobody, value_among}
 use Rattle.pm_object.specs.State.{HeldValue, agree_in_sites, agrees, ambient_in, cols_of, first_cols, have_as_many_sites, is_given, is_held, or_else, read_at, sites_agree, value_of}
 use Rattle.pm_object.specs.declared.held.Origin.TheVariants.{Given, Stored}
 use Rattle.pm_props.specs.Sets.{has as in_set}
@@ -28,7 +28,7 @@ use Rattle.pm_props.specs.declared.property.PropId.TheVariants.{ConeAmbientDim}
 use Rattle.pm_types.specs.Forms.{agrees_with, is_formed, stated_cols, states}
 use Rattle.pm_types.specs.Values.{PropertyValue}
 use Rattle.std.proofs.Common.{String, ap, arith, false, get_or, length, string_bytes, suc, zero, inl, inr, refl, subst, sym, true, true≢false, ◌∙◌}
-use Rattle.std.proofs.lemmas.Bool.{and_from, and_parts, eqb-true, or_cases}
+use Rattle.std.proofs.lemmas.Bool.{and_from, and_parts, eqb-true, not-true, or_cases}
 use Rattle.std.specs.Option.{is_some}
 use Rattle.std.specs.Prelude.{Bool, List, None, Option, Some, [], if◌then◌else◌, map, nat_eq, nat_le, not, ℕ, ◌<◌, ◌&&◌, ◌||◌, ◌++◌, ◌∷◌, ◌≡◌}
 
@@ -114,7 +114,7 @@ none_of test xs {x} h i = by (test x) refl
 -- of different elements none is like a later one
 pub differ_later : {X : Type 0} (same : X → X → Bool) (xs : List X) (x : X) (ys : List X) → are_different same (xs ++ x ∷ ys) ≡ true → {y : X} → Among y xs → same y x ≡ false
 differ_later same [] x ys h i = elim i [ ]
-differ_later same (z ∷ xs) x ys h here = none_of (same z) (xs ++ x ∷ ys) (is_not (list_any (same z) (xs ++ x ∷ ys)) (and_parts (not (list_any (same z) (xs ++ x ∷ ys))) (are_different same (xs ++ x ∷ ys)) h).0) (in_middle xs x ys)
+differ_later same (z ∷ xs) x ys h here = none_of (same z) (xs ++ x ∷ ys) (not-true (list_any (same z) (xs ++ x ∷ ys)) (and_parts (not (list_any (same z) (xs ++ x ∷ ys))) (are_different same (xs ++ x ∷ ys)) h).0) (in_middle xs x ys)
 differ_later same (z ∷ xs) x ys h (there i) = differ_later same xs x ys (and_parts (not (list_any (same z) (xs ++ x ∷ ys))) (are_different same (xs ++ x ∷ ys)) h).1 i
 
 pub apart_back : (p q : PropId) → same_property q p ≡ false → same_property p q ≡ false

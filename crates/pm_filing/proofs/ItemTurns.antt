@@ -1,5 +1,5 @@
 -- Lists that are read an item at a time.
-use Rattle.std.proofs.Common.{add-one, refl, sym, ap, drop, drop-cons, get_or, length, suc, ◌∙◌, ◌≡◌, ◌+◌, ◌<◌, ◌≤◌, ℕ, List, [], ◌∷◌, ◌++◌, Option, Some, None, Bool, true, false, not, ◌&&◌, append_assoc, append-nil, true≢false, inl, inr}
+use Rattle.std.proofs.Common.{add-one, refl, sym, ap, drop, drop-cons, get_or, length, suc, ◌∙◌, ◌≡◌, ◌+◌, ◌<◌, ◌≤◌, ℕ, List, [], ◌∷◌, ◌++◌, Option, Some, None, Bool, true, false, not, append_assoc, append-nil, true≢false, inl, inr}
 use Rattle.std.specs.Prelude.{option_and_then, option_map}
 use Rattle.std.specs.List.{list_any}
 use Rattle.std.proofs.lemmas.Bool.{cases_Bool}
@@ -8,6 +8,7 @@ use Rattle.serde_json.specs.Data.{Data, Items, item, no_items}
 use Rattle.serde_json.specs.View.{items_view, view}
 use Rattle.serde_json.specs.declared.value.Value.{Value}
 use Rattle.pm_filing.specs.Profiles.{are_different, each_read, if_different}
+use Rattle.std.proofs.Math.Bool.{and-false}
 
 -- ---- no two the same
 any_in : {A : Type 0} (test : A → Bool) (xs : List A) (a : A) (rest : List A) → test a ≡ true → list_any test (xs ++ a ∷ rest) ≡ true
@@ -24,15 +25,11 @@ none_in test (x ∷ xs) a h n = elim (cases_Bool (test x)) [
   | inr t ↦ rw t (none_in test xs a (rw t at h) n)
 ]
 
-and_false : (b : Bool) → (b && false) ≡ false
-and_false true = refl
-and_false false = refl
-
 not_different : {A : Type 0} (same : A → A → Bool) (front : List A) (a : A) (rest : List A) → list_any (λ x. same x a) front ≡ true → are_different same (front ++ a ∷ rest) ≡ false
 not_different same [] a rest h = absurd (true≢false (sym h))
 not_different same (x ∷ xs) a rest h = elim (cases_Bool (same x a)) [
   | inl t ↦ rw (any_in (same x) xs a rest t) refl
-  | inr t ↦ rw (not_different same xs a rest (rw t at h)) (and_false (not (list_any (same x) (xs ++ a ∷ rest))))
+  | inr t ↦ rw (not_different same xs a rest (rw t at h)) (and-false (not (list_any (same x) (xs ++ a ∷ rest))))
 ]
 
 still_different : {A : Type 0} (same : A → A → Bool) (front : List A) (a : A) → are_different same front ≡ true → list_any (λ x. same x a) front ≡ false → are_different same (front ++ a ∷ []) ≡ true

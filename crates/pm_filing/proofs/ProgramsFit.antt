@@ -1,6 +1,6 @@
 -- Programs of a file that fit behind those of an object: none is refused, and each takes its objective.
 use Rattle.std.proofs.Common.{append-nil, append_assoc, ap, arith, false, refl, subst, sym, true, true≢false, ◌∙◌}
-use Rattle.std.proofs.lemmas.Bool.{and_from, and_parts, and_right, or_from}
+use Rattle.std.proofs.lemmas.Bool.{and_from, and_parts, and_right, not-true, or_from}
 use Rattle.std.proofs.lemmas.List.{length-append}
 use Rattle.std.proofs.lemmas.List.Folds.{list_all-append}
 use Rattle.std.specs.List.{list_all, list_any}
@@ -21,7 +21,7 @@ use Rattle.pm_filing.specs.ReadingViews.{has_formed_objective, is_formed_objecti
 use Rattle.pm_filing.specs.Views.{AllSuit, Suits}
 use Rattle.pm_filing.specs.Whole.{IsWhole, is_place, objective_of}
 use Rattle.pm_fraction.specs.Matrices.{FractionMatrix}
-use Rattle.pm_object.proofs.Formed.{is_not, others_agree}
+use Rattle.pm_object.proofs.Formed.{others_agree}
 use Rattle.pm_object.specs.Formed.{ArePrograms, are_different}
 use Rattle.pm_object.specs.State.{CanTake, HeldValue, State, agrees, cols_of, empty_object, has_rounds_at, holds_computed_at, is_computed, is_held, is_polytope, is_sealed_at, place_from, program_refusal, read_at, sites_agree, value_of, with_program}
 use Rattle.pm_object.specs.declared.held.Excluded.{Excluded}
@@ -58,7 +58,7 @@ no_place : (k : ℕ) (names : List (List ℕ)) (name : List ℕ) (others : List 
 no_place k [] name others d = refl
 no_place k (other ∷ names) name others d =
     let both = and_parts (not (list_any (bytes_eq other) (names ++ name ∷ others))) (are_different (names ++ name ∷ others)) d in
-    let apart = none_of (bytes_eq other) (names ++ name ∷ others) (is_not (list_any (bytes_eq other) (names ++ name ∷ others)) both.0) (in_middle names name others) in
+    let apart = none_of (bytes_eq other) (names ++ name ∷ others) (not-true (list_any (bytes_eq other) (names ++ name ∷ others)) both.0) (in_middle names name others) in
     ap (λ t. if t then Some k else place_from (suc k) name names) apart ∙ no_place (suc k) names name others both.1
 
 -- the next name is a name

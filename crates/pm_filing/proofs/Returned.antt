@@ -2,7 +2,7 @@
 use Rattle.std.proofs.lemmas.Option.{same_Some as some_is, none-some as none_some}
 use Rattle.pm_filing.proofs.HeldSets.{both_ways}
 use Rattle.std.proofs.Common.{refl, sym, ap, subst, arith, inl, inr, ◌∙◌, ◌≡◌, ◌≢◌, ◌++◌, ◌∷◌, ◌&&◌, ◌||◌, ◌⊎◌, ◌+◌, ◌<◌, ◌≤◌, ℕ, length, suc, zero, List, [], Option, Some, None, Bool, true, false, true≢false}
-use Rattle.std.proofs.lemmas.Bool.{and_from, and_parts, lt-ltb, ltb-true}
+use Rattle.std.proofs.lemmas.Bool.{and_from, and_parts, lt-ltb, ltb-true, not-true}
 use Rattle.std.proofs.lemmas.Slice.Eq.{bytes_eq-Decides}
 use Rattle.std.specs.List.{AllPairs, Contains, list_any}
 use Rattle.std.specs.Option.{is_none, is_some}
@@ -18,7 +18,7 @@ use Rattle.pm_filing.proofs.Saved.{held_objective, value_held, values_of}
 use Rattle.pm_filing.proofs.SavedPrograms.{names_saved}
 use Rattle.pm_filing.specs.Filing.{failure_of, found_names, is_found, is_own_found, label_in, labelled_from, loaded_value, mark_by, mark_read, mark_written, marked, marks_of_programs, marks_written, name_told, objective_held, objective_rows, objective_value, objectives_held, property_with_value, rule_labelled, saved_file, saved_programs, unsettled_object, with_mark}
 use Rattle.pm_filing.specs.Whole.{IsFailure, IsLoadedAgain, IsSameFile, held_again, is_kept, is_place}
-use Rattle.pm_object.proofs.Formed.{is_not, nobody, only, value_among}
+use Rattle.pm_object.proofs.Formed.{nobody, only, value_among}
 use Rattle.pm_object.proofs.Viewing.{among_read}
 use Rattle.pm_object.specs.Formed.{IsFormed, are_once, is_placed, stands_at}
 use Rattle.pm_object.specs.State.{HeldValue, State, file_value, given_at, read_at, settling, value_of}
@@ -50,11 +50,11 @@ unique [] once i j s e = elim i [ ]
 unique (x ∷ held) once here here s e = refl
 unique (x ∷ held) {h} {g} once here (there j) s e =
     let b = and_parts (not (stands_at x.place x.property held)) (are_once held) once in
-    absurd (true≢false (sym (stands_from held x.place x.property j (sym e) s) ∙ is_not (stands_at x.place x.property held) b.0))
+    absurd (true≢false (sym (stands_from held x.place x.property j (sym e) s) ∙ not-true (stands_at x.place x.property held) b.0))
 unique (x ∷ held) {h} {g} once (there i) here s e =
     let b = and_parts (not (stands_at x.place x.property held)) (are_once held) once in
     let back : same_property x.property h.property ≡ true = subst (λ q. same_property q h.property ≡ true) (same_property_is h.property x.property s) (same_property_refl h.property) in
-    absurd (true≢false (sym (stands_from held x.place x.property i e back) ∙ is_not (stands_at x.place x.property held) b.0))
+    absurd (true≢false (sym (stands_from held x.place x.property i e back) ∙ not-true (stands_at x.place x.property held) b.0))
 unique (x ∷ held) once (there i) (there j) s e = unique held (and_parts (not (stands_at x.place x.property held)) (are_once held) once).1 i j s e
 
 is_nowhere : (p : Option ℕ) → is_none p ≡ true → p ≡ None

@@ -2,7 +2,7 @@
 use Rattle.std.proofs.lemmas.Option.{same_Some as some_is, none-some as none_some}
 use Rattle.pm_filing.proofs.HeldSets.{both_ways}
 use Rattle.std.proofs.Common.{refl, sym, ap, subst, arith, inl, inr, ◌∙◌, ◌≡◌, ◌++◌, ◌∷◌, ◌&&◌, ◌||◌, ◌+◌, ◌≤◌, ℕ, suc, zero, List, [], Option, Some, None, Ok, Err, Bool, true, false, true≢false, Ordering, Less, Equal, Greater}
-use Rattle.std.proofs.lemmas.Bool.{and_from, and_parts, leb-true, lt-ltb}
+use Rattle.std.proofs.lemmas.Bool.{and_from, and_parts, leb-true, lt-ltb, not-true}
 use Rattle.std.proofs.lemmas.List.{length-map}
 use Rattle.std.specs.Cmp.Lexicographic.{slice_cmp}
 use Rattle.std.specs.Fmt.{digits}
@@ -34,7 +34,7 @@ use Rattle.pm_filing.specs.Profiles.{Profile, are_different, each_read, evidence
 use Rattle.pm_filing.specs.Views.{Suits}
 use Rattle.pm_filing.specs.Whole.{AreMarks, IsSameFile, IsWhole, all_values, are_of_different, are_of_table, is_mark, is_of_one, objective_of}
 use Rattle.pm_json.specs.Readings.{Read, and_then, reading}
-use Rattle.pm_object.proofs.Formed.{agrees_dimension, ambient_is, dimension_of, is_not}
+use Rattle.pm_object.proofs.Formed.{agrees_dimension, ambient_is, dimension_of}
 use Rattle.pm_object.specs.State.{ambient_in, file_value, have_as_many_sites, is_polytope}
 use Rattle.pm_object.specs.declared.held.Origin.TheVariants.{Given}
 use Rattle.pm_props.proofs.NameLemmas.{named_in_exactly}
@@ -56,6 +56,7 @@ use Rattle.serde_json.specs.Data.{Data, Items, Members, member, no_items, no_mem
 use Rattle.serde_json.specs.Find.{as_array, as_number, as_object, as_str, get, get_member}
 use Rattle.serde_json.specs.View.{items_of}
 use Rattle.serde_json.specs.Written.{compact_text}
+use Rattle.std.proofs.Math.Bool.{and-false}
 
 abbrev Values : Type 0
 Values = List (PropId × PropertyValue)
@@ -122,10 +123,6 @@ parts_told of (member k d ms) a = rw (a.0.parts, parts_told of ms a.1) refl
 hidden_fine : (of : ObjectType) (k : List ℕ) (d : Data) → is_hidden k ≡ true → is_programs_key of k ≡ false → property_named_in of k ≡ None → IsFine of k d
 hidden_fine of k d h p n = record { parts = rw (p, n) refl; told = rw h refl }
 
-and_false : (b : Bool) → (b && false) ≡ false
-and_false true = refl
-and_false false = refl
-
 -- no value is written as an object
 no_object : (p : PropId) (v : PropertyValue) → as_object (json_of p v) ≡ None
 no_object LinearObjective (matrix n []) = refl
@@ -156,7 +153,7 @@ name_found of p h = (named_in_exactly of (name_in of p) p).1 (h, refl)
 value_fine : (of : ObjectType) (p : PropId) (v : PropertyValue) → has_property of p ≡ true → reading p (json_of p v) ≡ Ok v → IsFine of (name_in of p) (json_of p v)
 value_fine of p v h r = record {
   parts = rw (no_programs_key of p, name_found of p h, same_form p v, r) refl;
-  told = rw (name_found of p h, same_form p v) (and_false (not (is_hidden (name_in of p)) && not (is_programs_key of (name_in of p))));
+  told = rw (name_found of p h, same_form p v) (and-false (not (is_hidden (name_in of p)) && not (is_programs_key of (name_in of p))));
 }
 
 programs_fine : (of : ObjectType) (d : Data) (vs : List (Option PropertyValue)) → is_programs_key of (codes "LP") ≡ true → objectives_of d ≡ Ok vs → IsFine of (codes "LP") d
@@ -241,7 +238,7 @@ stands of [] p v ms h t o i = elim i [ ]
 stands of (w ∷ vs) p v ms h t o here =
     let b = and_parts (has_property of w.0) (are_of_table of vs) t in
     let d = and_parts (not (is_of_one vs w.0)) (are_of_different vs) o in
-    others of (name_in of w.0) vs (put (name_in of w.0) (json_of w.0 w.1) ms) (unheld of w.0 vs b.0 (is_not (is_of_one vs w.0) d.0) b.1) ∙ get_member-put (name_in of w.0) (json_of w.0 w.1) ms
+    others of (name_in of w.0) vs (put (name_in of w.0) (json_of w.0 w.1) ms) (unheld of w.0 vs b.0 (not-true (is_of_one vs w.0) d.0) b.1) ∙ get_member-put (name_in of w.0) (json_of w.0 w.1) ms
 stands of (w ∷ vs) p v ms h t o (there i) =
     stands of vs p v (put (name_in of w.0) (json_of w.0 w.1) ms) h (and_parts (has_property of w.0) (are_of_table of vs) t).1 (and_parts (not (is_of_one vs w.0)) (are_of_different vs) o).1 i
 

@@ -2,7 +2,7 @@
 use Rattle.pm_filing.proofs.Wholeness.{all_among}
 use Rattle.std.proofs.lemmas.Option.{same_Some as some_is}
 use Rattle.std.proofs.Common.{refl, sym, ap, subst, inl, inr, length, ◌∙◌, ◌≡◌, ◌++◌, ◌∷◌, ◌&&◌, ℕ, suc, zero, List, [], Option, Some, None, Bool, true, false, true≢false}
-use Rattle.std.proofs.lemmas.Bool.{and_from, and_parts}
+use Rattle.std.proofs.lemmas.Bool.{and_from, and_parts, not-true}
 use Rattle.std.specs.List.{list_all, list_any}
 use Rattle.std.specs.Option.{is_none, is_some, unwrap_or}
 use Rattle.std.specs.Prelude.{filter, flat_map, fold, if◌then◌else◌, map, nat_le, not, slice_get}
@@ -24,7 +24,7 @@ use Rattle.pm_filing.specs.Whole.{AreMarks, IsWhole, all_values, are_of_differen
 use Rattle.pm_geom.specs.Evidence.{evidence_number}
 use Rattle.pm_geom.specs.declared.evidence.Evidence.{Evidence}
 use Rattle.pm_geom.specs.declared.evidence.Evidence.TheVariants.{E1, E2, E3, E4}
-use Rattle.pm_object.proofs.Formed.{Each, agrees_free, held_dimension, is_not, nobody, none_stated, only, value_among}
+use Rattle.pm_object.proofs.Formed.{Each, agrees_free, held_dimension, nobody, none_stated, only, value_among}
 use Rattle.pm_object.proofs.Viewing.{among_read}
 use Rattle.pm_object.specs.Formed.{ArePrograms, IsFormed, are_once, is_numbered, stands_at}
 use Rattle.pm_object.specs.State.{HeldValue, State, agrees, ambient_in, cols_of, first_cols, have_as_many_sites, is_given, or_else, read_at, value_of}
@@ -81,7 +81,7 @@ values_once (h ∷ held) once =
 
     at : (place : Option ℕ) → not (stands_at place h.property held) ≡ true → are_of_different (values_of held) ≡ true
         → are_of_different (map property_with_value (if is_none place then h ∷ own held else own held)) ≡ true
-    at None n rest = and_from (not (is_of_one (values_of held) h.property)) (are_of_different (values_of held)) (new (is_of_one (values_of held) h.property) refl (is_not (stands_at None h.property held) n)) rest
+    at None n rest = and_from (not (is_of_one (values_of held) h.property)) (are_of_different (values_of held)) (new (is_of_one (values_of held) h.property) refl (not-true (stands_at None h.property held) n)) rest
     at (Some k) n rest = rest
 
 -- ---- one column count

@@ -1,6 +1,6 @@
 -- What is read is what the text says, and what the text says is read.
 use Rattle.std.proofs.Common.{refl, sym, ap, subst, arith, ◌∙◌, ◌≡◌, ◌≤◌, ◌+◌, ◌&&◌, ◌||◌, ◌∷◌, ℕ, suc, List, [], length, Option, Some, None, Ok, Err, Bool, true, false, cond, eqb, leb, ltb, true≢false}
-use Rattle.std.proofs.lemmas.Bool.{and_from, and_parts, eqb-true, eq-eqb, leb-true, ne_eqb}
+use Rattle.std.proofs.lemmas.Bool.{and_from, and_parts, eq-eqb, eqb-true, leb-true, ne_eqb}
 use Rattle.std.specs.List.{list_all, sum_by}
 use Rattle.std.specs.Prelude.{⊤, if◌then◌else◌, is_some, not}
 use Rattle.pm_vector.specs.Numbers.{Ratio}
@@ -168,10 +168,6 @@ matrix_is_text p d (matrix n rows) e = matrix_text 1 most_columns d (matrix n ro
 matrix_is_text p d v e = absurd (matrix_text 1 most_columns d v e)
 
 -- ---- sets
-or_is : (a b : Bool) → a ≡ true → (a || b) ≡ true
-or_is true b h = refl
-or_is false b h = absurd (true≢false (sym h))
-
 shuffled : (a b c : Bool) → ((a || b) || c) ≡ (b || (a || c))
 shuffled true true c = refl
 shuffled true false c = refl

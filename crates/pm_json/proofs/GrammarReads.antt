@@ -1,6 +1,6 @@
 -- What the text of a value says is read as that value.
 use Rattle.std.proofs.Common.{refl, sym, ap, subst, arith, cond, inl, inr, ◌∙◌, ◌≡◌, ◌<◌, ◌≤◌, ◌+◌, ◌&&◌, ◌||◌, ◌∷◌, ℕ, suc, List, [], length, Option, Some, None, Ok, Err, Bool, true, false, eqb, leb, ltb, true≢false}
-use Rattle.std.proofs.lemmas.Bool.{and_from, and_parts, cases_lt, eqb-false, eqb-true, eq-eqb, le-leb, le-ltb, leb-true, lt-ltb, ltb-true, ne_eqb}
+use Rattle.std.proofs.lemmas.Bool.{and_from, and_parts, cases_lt, eq-eqb, eqb-false, eqb-true, le-leb, le-ltb, leb-true, lt-ltb, ltb-true, ne_eqb, not-true}
 use Rattle.std.proofs.lemmas.List.Sums.{sum_by-cons}
 use Rattle.std.specs.List.{list_all, sum_by}
 use Rattle.std.specs.Prelude.{if◌then◌else◌, is_some, nat_eq, not}
@@ -139,10 +139,6 @@ index_read d j h l = rw (h, lt-ltb j most_rows l) refl
 abbrev are_small_indices : List ℕ → Bool
 are_small_indices js = list_all (λ j. ltb j most_rows) js
 
-not_is : (b : Bool) → not b ≡ true → b ≡ false
-not_is true h = sym h
-not_is false h = refl
-
 -- what is new and another index is new beside that index
 new_back : (j : ℕ) (front js : List ℕ) → are_new front js ≡ true → has_index j js ≡ false → are_new (with_index j front) js ≡ true
 new_back j front [] h n = refl
@@ -151,7 +147,7 @@ new_back j front (k ∷ js) h n =
     let o = or_false (eqb k j) (has_index j js) n in
     let apart : eqb j k ≡ false = ne_eqb j k (λ e. true≢false (sym (eq-eqb k j (omega (arith, e))) ∙ o.0)) in
     and_from (not (has_index k (with_index j front))) (are_new (with_index j front) js)
-    (is_not (has_index k (with_index j front)) (has_put k j front ∙ ap (λ t. t || has_index k front) apart ∙ not_is (has_index k front) b.0)) (new_back j front js b.1 o.1)
+    (is_not (has_index k (with_index j front)) (has_put k j front ∙ ap (λ t. t || has_index k front) apart ∙ not-true (has_index k front) b.0)) (new_back j front js b.1 o.1)
   where
     or_false : (a b : Bool) → (a || b) ≡ false → (a ≡ false) × (b ≡ false)
     or_false true b e = absurd (true≢false e)
@@ -181,12 +177,12 @@ set_read front (item d ds) (j ∷ js) h a n l =
     let p = and_parts (not (has_index j js)) (are_apart js) a in
     let q = and_parts (not (has_index j front)) (are_new front js) n in
     let m = and_parts (ltb j most_rows) (are_small_indices js) l in
-    let s = set_read (with_index j front) ds js h.1 p.1 (new_back j front js q.1 (not_is (has_index j js) p.0)) m.1 in
+    let s = set_read (with_index j front) ds js h.1 p.1 (new_back j front js q.1 (not-true (has_index j js) p.0)) m.1 in
     record {
       set = s.set;
       read =
           ap (λ r. and_then r (λ i. if has_index i front then Err Shape else set_from (with_index i front) ds)) (index_read d j h.0 (ltb-true j most_rows m.0))
-          ∙ ap (λ (t : Bool). if t then Err Shape else set_from (with_index j front) ds) (not_is (has_index j front) q.0) ∙ s.read;
+          ∙ ap (λ (t : Bool). if t then Err Shape else set_from (with_index j front) ds) (not-true (has_index j front) q.0) ∙ s.read;
       members = λ i. s.members i ∙ ap (λ b. b || has_index i js) (has_put i j front) ∙ shuffled (eqb j i) (has_index i front) (has_index i js);
     }
 

@@ -11,11 +11,8 @@ use Rattle.pm_lattice.specs.Lattices.{IsFaceLattice}
 use Rattle.pm_lattice.specs.Parts.{both}
 use Rattle.std.proofs.Common.{arith, inl, inr, refl, sym, ◌∙◌}
 use Rattle.std.specs.List.{AllPairs, Contains}
-use Rattle.std.specs.Prelude.{Bool, IsTrue, List, [], false, length, suc, true, zero, ℕ, ◌<◌, ◌∷◌, ◌≡◌, ◌⊎◌}
-
-bool_cases : (b : Bool) → (b ≡ true) ⊎ (b ≡ false)
-bool_cases true = inl refl
-bool_cases false = inr refl
+use Rattle.std.specs.Prelude.{Bool, IsTrue, List, [], length, suc, true, zero, ℕ, ◌<◌, ◌∷◌, ◌≡◌}
+use Rattle.std.proofs.lemmas.Bool.{cases_Bool}
 
 below_one : (P : ℕ → Type 0) → P 0 → (j : ℕ) → j < 1 → P j
 below_one P a = below 0 P (λ j l. absurd (omega arith)) a
@@ -85,7 +82,7 @@ there_point = let i : Among (0 ∷ []) (at_rank point_faces 1) = here in Contain
 point_lattice : IsFaceLattice (record { rows = point_sets; cols = 1 }) point_faces
 point_lattice = record {
   each = λ k xs c. point_each k xs (among_Contains (at_rank point_faces k) c);
-  all = λ g w. elim (bool_cases (g 0)) [
+  all = λ g w. elim (cases_Bool (g 0)) [
     | inl e ↦ (1, 0 ∷ [], there_point, below_one (λ j. g j ≡ holds (0 ∷ []) j) e)
     | inr e ↦ (0, [], there_least, below_one (λ j. g j ≡ holds [] j) e)
   ];

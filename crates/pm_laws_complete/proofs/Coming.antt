@@ -21,13 +21,9 @@ use Rattle.pm_rules.specs.Rules.{rule_at}
 use Rattle.pm_rules.specs.declared.rule.Rule.{Rule}
 use Rattle.pm_types.specs.Values.{Fact}
 use Rattle.std.proofs.Common.{ap, inl, inr, refl, subst, sym, true≢false, ◌∙◌}
-use Rattle.std.proofs.lemmas.Bool.{and_parts}
+use Rattle.std.proofs.lemmas.Bool.{and_parts, cases_Bool}
 use Rattle.std.specs.Option.{option_map, unwrap_or}
-use Rattle.std.specs.Prelude.{Bool, List, Option, Some, [], false, not, true, ℕ, ◌&&◌, ◌∷◌, ◌≡◌, ◌⊎◌}
-
-decide : (b : Bool) → (b ≡ true) ⊎ (b ≡ false)
-decide true = inl refl
-decide false = inr refl
+use Rattle.std.specs.Prelude.{Bool, List, Option, Some, [], false, not, true, ℕ, ◌&&◌, ◌∷◌, ◌≡◌}
 
 -- ---- what a chain reaches
 union_more : (h k t : PropSet) → IsSubset h k → IsSubset (union h t) (union k t)
@@ -46,7 +42,7 @@ both_true a b e f = cc
 
 -- what is missing is reached, so all that is asked is
 asked_reached : (asked held goal : PropSet) → IsSubset held goal → IsSubset (difference asked held) goal → IsSubset asked goal
-asked_reached asked held goal f g p x = elim (decide (has held p)) [
+asked_reached asked held goal f g p x = elim (cases_Bool (has held p)) [
   | inl y ↦ f p y
   | inr n ↦ g p (has-difference asked held p ∙ both_true (has asked p) (has held p) x n)
 ]

@@ -19,13 +19,9 @@ use Rattle.pm_laws_complete.proofs.Free.{needs_none}
 use Rattle.pm_laws_complete.proofs.SparedLaws.{spared_is_found}
 use Rattle.pm_laws_complete.specs.Spared.{AreFree, KeptChainLeads, NeedNothing, Spares, SparesIn}
 use Rattle.pm_laws_complete.specs.Told.{AreTold, KeptNeverFail, ToldIn}
-use Rattle.std.proofs.Common.{ap, refl, sym, true≢false, ◌∙◌}
+use Rattle.std.proofs.Common.{ap, sym, true≢false, ◌∙◌}
 use Rattle.std.specs.Prelude.{Bool, List, Option, Some, [], false, true, ℕ, ◌∷◌, ◌≡◌}
-
--- what is refuted where it is true is false
-refuted : (b : Bool) → (b ≡ true → ⊥) → b ≡ false
-refuted true f = absurd (f refl)
-refuted false f = refl
+use Rattle.std.proofs.lemmas.Bool.{false_from_ne_true}
 
 module _ (Fails : Kind → ViewSeen → Evidence → Type 0) (book : List Rule) (keeps : RuleId → Bool) (sub : Option ℕ) (asked : PropSet) (Good : State → Type 0) (need : NeedNothing book keeps) (kept : KeptNeverFail Fails book keeps sub asked Good) where
   by_false : (id : RuleId) (c : Configuration) (x : Excluded) → IsFalse book sub id c.object x → keeps id ≡ true → ⊥
@@ -43,8 +39,8 @@ module _ (Fails : Kind → ViewSeen → Evidence → Type 0) (book : List Rule) 
   excludes unsettled c x may good told = absurd may
   excludes at_rest c x may good told = absurd may
   excludes (over chain e) c x may good told = absurd may
-  excludes (turn chain id left) c x may good told = ap (λ (z : Excluded). keeps z.rule) may.is ∙ refuted (keeps id) (by_false id c x may)
-  excludes (running chain id left) c x may good told = ap (λ (z : Excluded). keeps z.rule) may.is ∙ refuted (keeps id) (by_failure id c x good told may)
+  excludes (turn chain id left) c x may good told = ap (λ (z : Excluded). keeps z.rule) may.is ∙ false_from_ne_true (keeps id) (by_false id c x may)
+  excludes (running chain id left) c x may good told = ap (λ (z : Excluded). keeps z.rule) may.is ∙ false_from_ne_true (keeps id) (by_failure id c x good told may)
 
   one_spares : (phase : Phase) (c : Configuration) (e : Event) → MayOccur unsaid book sub asked phase c e → Good c.object → ToldIn Fails book sub c e → SparesIn keeps e
   one_spares phase c settled may good told = tt

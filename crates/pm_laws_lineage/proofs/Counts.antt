@@ -12,7 +12,7 @@ use Rattle.pm_files.specs.Files.{SavedFile}
 use Rattle.pm_filing.specs.Whole.{is_kept}
 use Rattle.pm_laws_lineage.proofs.Names.{none_of_five}
 use Rattle.pm_laws_lineage.proofs.Twice.{held_append}
-use Rattle.pm_laws_lineage.proofs.Saved.{both, decide, not_both}
+use Rattle.pm_laws_lineage.proofs.Saved.{not_both}
 use Rattle.pm_laws_lineage.specs.Provenances.{is_savable, states_one_count}
 use Rattle.pm_making.specs.Rows.{Makes, object_of, shape_file}
 use Rattle.pm_object.proofs.Formed.{ambient_is, held_stays, nobody, none_stated, only}
@@ -28,7 +28,7 @@ use Rattle.pm_types.specs.Values.{PropertyValue}
 use Rattle.pm_vector.proofs.Lists.{Among, among_append, here, there}
 use Rattle.pm_vector.specs.Numbers.{Ratio}
 use Rattle.std.proofs.Common.{ap, arith, false, inl, inr, refl, subst, sym, true, true≢false, ◌∙◌}
-use Rattle.std.proofs.lemmas.Bool.{and_parts, eq-eqb, eqb-true}
+use Rattle.std.proofs.lemmas.Bool.{and_from, and_parts, cases_Bool, eq-eqb, eqb-true, or_right}
 use Rattle.std.proofs.lemmas.Option.{same_Some}
 use Rattle.std.specs.List.{list_all}
 use Rattle.std.specs.Option.{is_some}
@@ -42,7 +42,7 @@ all_at p (y ∷ xs) h (there i) = all_at p xs (and_parts (p y) (list_all p xs) h
 
 all_of : {A : Type 0} (p : A → Bool) (xs : List A) → ((x : A) → Among x xs → p x ≡ true) → list_all p xs ≡ true
 all_of p [] h = refl
-all_of p (x ∷ xs) h = both (p x) (list_all p xs) (h x here) (all_of p xs (λ y i. h y (there i)))
+all_of p (x ∷ xs) h = and_from (p x) (list_all p xs) (h x here) (all_of p xs (λ y i. h y (there i)))
 
 pub no_names : (ps : List PropId) → nat_eq (length ps) 0 ≡ true → ps ≡ []
 no_names [] h = refl
@@ -80,10 +80,6 @@ pub agrees_so : (n : ℕ) (p : PropId) (v : PropertyValue) → same_property Con
 agrees_so n p v other h = subst (λ t. (if t then states n v else nat_eq (stated_cols p v) 0 || nat_eq (stated_cols p v) n) ≡ true) (ambient_is p ∙ other) h
 
 -- ---- what commands make
-or_true : (a b : Bool) → b ≡ true → (a || b) ≡ true
-or_true true b h = refl
-or_true false b h = h
-
 -- a value of an object that states n columns or none
 record StatesOnly (n : ℕ) (h : HeldValue) : Type 0 where
   kept : is_kept h ≡ true
@@ -91,7 +87,7 @@ record StatesOnly (n : ℕ) (h : HeldValue) : Type 0 where
   states : (stated_cols h.property h.value ≡ 0) ⊎ (stated_cols h.property h.value ≡ n)
 
 one_count : (n : ℕ) (held : List HeldValue) → ((h : HeldValue) → Among h held → StatesOnly n h) → not (is_held ConeAmbientDim held) ≡ true → states_one_count held ≡ true
-one_count n held all none = all_of (λ h. is_kept h && agrees (cols_of held) h.property h.value) held (λ h i. both _ _ (all h i).kept (subst (λ z. agrees z h.property h.value ≡ true) (sym (counted held none)) (agree h i (first_cols held) refl)))
+one_count n held all none = all_of (λ h. is_kept h && agrees (cols_of held) h.property h.value) held (λ h i. and_from _ _ (all h i).kept (subst (λ z. agrees z h.property h.value ≡ true) (sym (counted held none)) (agree h i (first_cols held) refl)))
   where
     agree : (h : HeldValue) → Among h held → (x : Option ℕ) → first_cols held ≡ x → agrees x h.property h.value ≡ true
     agree h i None e = refl
@@ -106,7 +102,7 @@ one_count n held all none = all_of (λ h. is_kept h && agrees (cols_of held) h.p
 
         number : (k m : ℕ) → (k ≡ 0) ⊎ (k ≡ n) → m ≡ n → (nat_eq k 0 || nat_eq k m) ≡ true
         number k m (inl z) e = subst (λ t. (nat_eq t 0 || nat_eq t m) ≡ true) (sym z) refl
-        number k m (inr z) e = or_true (nat_eq k 0) (nat_eq k m) (eq-eqb k m (z ∙ sym e))
+        number k m (inr z) e = or_right (nat_eq k 0) (nat_eq k m) (eq-eqb k m (z ∙ sym e))
 
 rows_state : (n : ℕ) (rows : List (List Ratio)) → (cols_over n rows ≡ 0) ⊎ (cols_over n rows ≡ n)
 rows_state n [] = inl refl
@@ -121,7 +117,7 @@ over_states p n rows = by (is_columned p)
 
 unasked : (o : State) → has_rounds o ≡ false → not (is_held ConeAmbientDim o.held) ≡ true → (n : ℕ) → ((h : HeldValue) → Among h o.held → StatesOnly n h) → is_savable o ≡ true
 unasked o none unknown n all =
-    or_true (nat_eq (length (names_to_settle o.held)) 0) _ (both _ _ (ap not none) (or_true (is_held ConeAmbientDim o.held) (states_one_count o.held) (one_count n o.held all unknown)))
+    or_right (nat_eq (length (names_to_settle o.held)) 0) _ (and_from _ _ (ap not none) (or_right (is_held ConeAmbientDim o.held) (states_one_count o.held) (one_count n o.held all unknown)))
 
 pub savable_one : (p : PropId) (n : ℕ) (rows : List (List Ratio)) → same_property ConeAmbientDim p ≡ false → is_savable (object_of (polytope_with ((p, value_over n rows) ∷ []))) ≡ true
 savable_one p n rows e = unasked (object_of (polytope_with ((p, value_over n rows) ∷ []))) refl (ap (λ t. not (is_some (if t then Some (value_over n rows) else None))) e) n all
@@ -174,7 +170,7 @@ savable_counts o savable e = by (nat_eq (length (names_to_settle o.held)) 0) ref
     by false z k = k
 
 pub counts_savable : (o : State) → has_rounds o ≡ false → CountIsOne o → is_savable o ≡ true
-counts_savable o e count = or_true (nat_eq (length (names_to_settle o.held)) 0) _ (both _ _ (ap not e) (count e))
+counts_savable o e count = or_right (nat_eq (length (names_to_settle o.held)) 0) _ (and_from _ _ (ap not e) (count e))
 
 pub known_counts : (o : State) → is_held ConeAmbientDim o.held ≡ true → CountIsOne o
 known_counts o h e = ap (λ t. t || states_one_count o.held) h
@@ -185,7 +181,7 @@ more_counts : (held : List HeldValue) (h : HeldValue) → not (is_held ConeAmbie
 more_counts held h none other one kept agree later = by (first_cols held) refl
   where
     zero_or : (k n : ℕ) → (nat_eq k 0 || nat_eq k n) ≡ true → (k ≡ 0) ⊎ (k ≡ n)
-    zero_or k n e = elim (decide (nat_eq k 0)) [
+    zero_or k n e = elim (cases_Bool (nat_eq k 0)) [
       | inl z ↦ inl (eqb-true k 0 z)
       | inr z ↦ inr (eqb-true k n (subst (λ t. (t || nat_eq k n) ≡ true) z e))
     ]
@@ -217,11 +213,11 @@ more_counts held h none other one kept agree later = by (first_cols held) refl
 
 -- so is what an object holds that takes a value
 pub taken_counts : (o : State) (h : HeldValue) → is_kept h ≡ true → agrees (cols_of o.held) h.property h.value ≡ true → CountIsOne o → CountIsOne (with_held o (h ∷ []))
-taken_counts o h kept agree count e = elim (decide (is_held ConeAmbientDim (o.held ++ h ∷ []))) [
+taken_counts o h kept agree count e = elim (cases_Bool (is_held ConeAmbientDim (o.held ++ h ∷ []))) [
   | inl k ↦ ap (λ t. t || states_one_count (o.held ++ h ∷ [])) k
   | inr k ↦ (
       let none : is_held ConeAmbientDim o.held ≡ false = before (is_held ConeAmbientDim o.held) refl k in
-      or_true (is_held ConeAmbientDim (o.held ++ h ∷ [])) _
+      or_right (is_held ConeAmbientDim (o.held ++ h ∷ [])) _
       (more_counts o.held h (ap not none) (other (same_property ConeAmbientDim h.property) refl k) (subst (λ t. (t || states_one_count o.held) ≡ true) none (count e)) kept agree (ap not k))
       )
 ]

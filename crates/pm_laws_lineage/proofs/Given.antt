@@ -4,12 +4,11 @@ use Rattle.pm_geom.specs.Things.{Orders}
 use Rattle.pm_laws_lineage.proofs.Facts.{based_append, objectives_append, right_of_fewer}
 use Rattle.pm_laws_lineage.proofs.Names.{among_fifth, among_first, among_fourth, among_second, among_third, each_of_five}
 use Rattle.pm_laws_lineage.proofs.Objectives.{one_more, same_number}
-use Rattle.pm_laws_lineage.proofs.Saved.{both}
 use Rattle.pm_laws_lineage.proofs.Sound.{Sound}
 use Rattle.pm_laws_lineage.proofs.Twice.{held_append}
 use Rattle.pm_laws_lineage.specs.Lineages.{IsObjectiveOf, IsValueOf, Lineage, with_value}
 use Rattle.pm_laws_lineage.specs.Provenances.{keeps_lineage, made, objectives}
-use Rattle.pm_object.proofs.Formed.{ambient_is, first_later, first_stays, held_stays, is_not, only, place_none}
+use Rattle.pm_object.proofs.Formed.{ambient_is, first_later, first_stays, held_stays, only, place_none}
 use Rattle.pm_object.specs.Honest.{based, facts}
 use Rattle.pm_object.specs.State.{HeldValue, State, ambient_in, cols_of, first_cols, given_at, has_rounds, is_held, names_to_settle, or_else, settled, settling, with_held}
 use Rattle.pm_props.proofs.Places.{same_property_is}
@@ -25,10 +24,11 @@ use Rattle.pm_types.specs.Values.{Fact, PropertyValue, matrix}
 use Rattle.pm_vector.proofs.Filters.{among_map, map_among}
 use Rattle.pm_vector.proofs.Lists.{All_among, Among, Contains_among, among_All, among_append, among_append_left, among_append_right, here, there}
 use Rattle.std.proofs.Common.{ap, false, inl, inr, refl, subst, sym, true, true≢false, ◌∙◌}
-use Rattle.std.proofs.lemmas.Bool.{and_parts, eqb-true}
+use Rattle.std.proofs.lemmas.Bool.{and_from, and_parts, eqb-true, not-true}
 use Rattle.std.specs.Option.{is_some, unwrap_or}
 use Rattle.std.specs.Prelude.{Bool, List, None, Option, Some, [], if◌then◌else◌, map, nat_eq, not, ℕ, ◌++◌, ◌&&◌, ◌||◌, ◌∷◌, ◌≡◌}
 use lib.IntN.{pos}
+use Rattle.std.proofs.Math.Bool.{or-false}
 
 -- ---- the property
 record Keeps (p : PropId) : Type 0 where
@@ -42,7 +42,7 @@ keeps_parts p e =
     let (abc, d) = and_parts (not (rays_tag p) && not (facets_tag p) && not (generators_tag p)) (not (half_spaces_tag p)) e in
     let (ab, c) = and_parts (not (rays_tag p) && not (facets_tag p)) (not (generators_tag p)) abc in
     let (a, b) = and_parts (not (rays_tag p)) (not (facets_tag p)) ab in
-    record { rays = is_not _ a; facets = is_not _ b; generators = is_not _ c; half_spaces = is_not _ d }
+    record { rays = not-true _ a; facets = not-true _ b; generators = not-true _ c; half_spaces = not-true _ d }
 
 first_is_no_half : (p : PropId) → Keeps p → (v : PropertyValue) (q : PropId) (w : PropertyValue) (t : Thing) → RightPair p v q w t
 first_is_no_half Points k v q w t = absurd (true≢false k.generators)
@@ -64,10 +64,6 @@ apart q p other keeps = by (same_property q p) refl
     by true e = absurd (true≢false (sym keeps ∙ sym (ap keeps_lineage (same_property_is q p e)) ∙ other))
     by false e = refl
 
-or_false : (b : Bool) → (b || false) ≡ b
-or_false true = refl
-or_false false = refl
-
 module _ (o : State) (p : PropId) (v : PropertyValue) (keeps : keeps_lineage p ≡ true) where
   abbrev later : List HeldValue
   later = o.held ++ given_at None p v ∷ []
@@ -79,13 +75,13 @@ module _ (o : State) (p : PropId) (v : PropertyValue) (keeps : keeps_lineage p �
   now = unwrap_or (cols_of (o.held ++ given_at None p v ∷ [])) 1
 
   still : (q : PropId) → keeps_lineage q ≡ false → is_held q (o.held ++ given_at None p v ∷ []) ≡ is_held q o.held
-  still q other = held_append q o.held (given_at None p v ∷ []) ∙ ap (λ t. is_held q o.held || is_some (if t then Some v else None)) (apart q p other keeps) ∙ or_false (is_held q o.held)
+  still q other = held_append q o.held (given_at None p v ∷ []) ∙ ap (λ t. is_held q o.held || is_some (if t then Some v else None)) (apart q p other keeps) ∙ or-false (is_held q o.held)
 
   lacked : (q : PropId) → not (is_held q (o.held ++ given_at None p v ∷ [])) ≡ true → not (is_held q o.held) ≡ true
   lacked q e = by (is_held q o.held) refl
     where
       by : (b : Bool) → is_held q o.held ≡ b → not b ≡ true
-      by true h = absurd (true≢false (sym (held_stays q o.held (given_at None p v ∷ []) h) ∙ is_not _ e))
+      by true h = absurd (true≢false (sym (held_stays q o.held (given_at None p v ∷ []) h) ∙ not-true _ e))
       by false h = refl
 
   -- ---- the columns
@@ -99,7 +95,7 @@ module _ (o : State) (p : PropId) (v : PropertyValue) (keeps : keeps_lineage p �
       by : (b : Bool) → same_property ConeAmbientDim p ≡ b → b ≡ false
       by false e = refl
       by true e =
-          absurd (true≢false (sym (held_append ConeAmbientDim o.held (given_at None p v ∷ []) ∙ ap (λ t. is_held ConeAmbientDim o.held || is_some (if t then Some v else None)) e ∙ or_true (is_held ConeAmbientDim o.held)) ∙ is_not _ none))
+          absurd (true≢false (sym (held_append ConeAmbientDim o.held (given_at None p v ∷ []) ∙ ap (λ t. is_held ConeAmbientDim o.held || is_some (if t then Some v else None)) e ∙ or_true (is_held ConeAmbientDim o.held)) ∙ not-true _ none))
 
   not_known : (x : Option PropertyValue) → not (is_some x) ≡ true → x ≡ None
   not_known None h = refl
@@ -139,10 +135,10 @@ module _ (o : State) (p : PropId) (v : PropertyValue) (keeps : keeps_lineage p �
           (among_map (settled before) (among_first _ _ _ _ _ (lacked ConeAmbientDim h)))
 
       lineality : (is_held Points (o.held ++ given_at None p v ∷ []) && not (is_held InputLineality (o.held ++ given_at None p v ∷ []))) ≡ true → Among (settled now InputLineality) (map (settled before) (names_to_settle o.held))
-      lineality h = let (a, b) = and_parts _ _ h in among_map (settled before) (among_second _ _ _ _ _ (both _ _ (sym (still Points refl) ∙ a) (lacked InputLineality b)))
+      lineality h = let (a, b) = and_parts _ _ h in among_map (settled before) (among_second _ _ _ _ _ (and_from _ _ (sym (still Points refl) ∙ a) (lacked InputLineality b)))
 
       equations : (is_held Inequalities (o.held ++ given_at None p v ∷ []) && not (is_held Equations (o.held ++ given_at None p v ∷ []))) ≡ true → Among (settled now Equations) (map (settled before) (names_to_settle o.held))
-      equations h = let (a, b) = and_parts _ _ h in among_map (settled before) (among_third _ _ _ _ _ (both _ _ (sym (still Inequalities refl) ∙ a) (lacked Equations b)))
+      equations h = let (a, b) = and_parts _ _ h in among_map (settled before) (among_third _ _ _ _ _ (and_from _ _ (sym (still Inequalities refl) ∙ a) (lacked Equations b)))
 
       space : (is_held Vertices (o.held ++ given_at None p v ∷ []) && not (is_held Points (o.held ++ given_at None p v ∷ [])) && not (is_held Inequalities (o.held ++ given_at None p v ∷ []))
           && not (is_held Facets (o.held ++ given_at None p v ∷ []) && is_held AffineHull (o.held ++ given_at None p v ∷ [])) && not (is_held LinealitySpace (o.held ++ given_at None p v ∷ []))) ≡ true
@@ -152,7 +148,7 @@ module _ (o : State) (p : PropId) (v : PropertyValue) (keeps : keeps_lineage p �
           let (abc, d) = and_parts _ _ abcd in
           let (ab, c) = and_parts _ _ abc in
           let (a, b) = and_parts _ _ ab in
-          among_map (settled before) (among_fourth _ _ _ _ _ (both _ _ (both _ _ (both _ _ (both _ _ (sym (still Vertices refl) ∙ a) (lacked Points b)) (lacked Inequalities c)) (no_pair d)) (lacked LinealitySpace e)))
+          among_map (settled before) (among_fourth _ _ _ _ _ (and_from _ _ (and_from _ _ (and_from _ _ (and_from _ _ (sym (still Vertices refl) ∙ a) (lacked Points b)) (lacked Inequalities c)) (no_pair d)) (lacked LinealitySpace e)))
         where
           no_pair : not (is_held Facets (o.held ++ given_at None p v ∷ []) && is_held AffineHull (o.held ++ given_at None p v ∷ [])) ≡ true → not (is_held Facets o.held && is_held AffineHull o.held) ≡ true
           no_pair d = by (is_held Facets o.held && is_held AffineHull o.held) refl
@@ -161,7 +157,7 @@ module _ (o : State) (p : PropId) (v : PropertyValue) (keeps : keeps_lineage p �
               by false e = refl
               by true e =
                   let (a, b) = and_parts _ _ e in
-                  absurd (true≢false (sym (both _ _ (held_stays Facets o.held (given_at None p v ∷ []) a) (held_stays AffineHull o.held (given_at None p v ∷ []) b)) ∙ is_not _ d))
+                  absurd (true≢false (sym (and_from _ _ (held_stays Facets o.held (given_at None p v ∷ []) a) (held_stays AffineHull o.held (given_at None p v ∷ []) b)) ∙ not-true _ d))
 
       hull : (is_held Facets (o.held ++ given_at None p v ∷ []) && not (is_held Points (o.held ++ given_at None p v ∷ [])) && not (is_held Inequalities (o.held ++ given_at None p v ∷ []))
           && not (is_held Vertices (o.held ++ given_at None p v ∷ [])) && not (is_held AffineHull (o.held ++ given_at None p v ∷ []))) ≡ true
@@ -171,7 +167,7 @@ module _ (o : State) (p : PropId) (v : PropertyValue) (keeps : keeps_lineage p �
           let (abc, d) = and_parts _ _ abcd in
           let (ab, c) = and_parts _ _ abc in
           let (a, b) = and_parts _ _ ab in
-          among_map (settled before) (among_fifth _ _ _ _ _ (both _ _ (both _ _ (both _ _ (both _ _ (sym (still Facets refl) ∙ a) (lacked Points b)) (lacked Inequalities c)) (lacked Vertices d)) (lacked AffineHull e)))
+          among_map (settled before) (among_fifth _ _ _ _ _ (and_from _ _ (and_from _ _ (and_from _ _ (and_from _ _ (sym (still Facets refl) ∙ a) (lacked Points b)) (lacked Inequalities c)) (lacked Vertices d)) (lacked AffineHull e)))
 
   settling_before : (k : ℕ) → agrees_with k p v ≡ true → (has_rounds o ≡ false → not (is_held ConeAmbientDim o.held) ≡ true → before ≡ k) → (h : HeldValue) → Among h (settling (with_held o (given_at None p v ∷ []))) → Among h (settling o)
   settling_before k agree right h i = by (has_rounds o) refl i

@@ -12,7 +12,7 @@ use Rattle.pm_laws_lineage.proofs.Sound.{KnowsDimension, Sound, ensured_keeps, s
 use Rattle.pm_laws_lineage.proofs.Twice.{settling_knows}
 use Rattle.pm_laws_lineage.specs.Lineages.{Lineage}
 use Rattle.pm_laws_lineage.specs.Provenances.{AllStandFor, Provenance, Provenances, StandsFor, is_savable, keeps_lineage, lineage_of, made, made_with, of_its_values, provenance_given, put}
-use Rattle.pm_machine.proofs.Keeping.{decide, other_bytes, same_bytes}
+use Rattle.pm_machine.proofs.Keeping.{other_bytes, same_bytes}
 use Rattle.pm_machine.proofs.Kept.{honesty}
 use Rattle.pm_machine.specs.Machines.{Machine, OthersStay}
 use Rattle.pm_machine.specs.Steps.{property_named}
@@ -37,6 +37,7 @@ use Rattle.std.proofs.Common.{ap, bytes_eq, false, inl, inr, refl, subst, sym, t
 use Rattle.std.proofs.lemmas.List.Elements.{filter-append}
 use Rattle.std.specs.Option.{is_none, is_some}
 use Rattle.std.specs.Prelude.{Bool, IfSome, List, None, Option, Some, [], if◌then◌else◌, not, ℕ, ◌++◌, ◌||◌, ◌∷◌, ◌≡◌}
+use Rattle.std.proofs.lemmas.Bool.{cases_Bool}
 
 -- an object of this provenance between commands
 pub record InLine (provenance : Provenance) (o : State) : Type 0 where
@@ -190,7 +191,7 @@ same_line provenances old new same all = record { each = λ q. subst (λ z. IfSo
 -- one object changes
 pub one_line : (provenances : Provenances) (name : List ℕ) (o : State) (old new : Machine) → new.object name ≡ Some o → OthersStay name old new → InLine (provenances name) o → AllInLine provenances old → AllInLine provenances new
 one_line provenances name o old new is others s all = record {
-  each = λ q. elim (decide (bytes_eq q name)) [
+  each = λ q. elim (cases_Bool (bytes_eq q name)) [
     | inl e ↦ subst (λ z. IfSome (new.object z) (InLine (provenances z))) (sym (same_bytes q name e)) (subst (λ z. IfSome z (InLine (provenances name))) (sym is) s)
     | inr e ↦ subst (λ z. IfSome z (InLine (provenances q))) (sym (others q (other_bytes q name e))) (all.each q)
   ];
@@ -199,7 +200,7 @@ one_line provenances name o old new is others s all = record {
 -- one object changes, and how it came
 pub new_line : (provenances : Provenances) (name : List ℕ) (provenance : Provenance) (o : State) (old new : Machine) → new.object name ≡ Some o → OthersStay name old new → InLine provenance o → AllInLine provenances old → AllInLine (put name provenance provenances) new
 new_line provenances name provenance o old new is others s all = record {
-  each = λ q. elim (decide (bytes_eq q name)) [
+  each = λ q. elim (cases_Bool (bytes_eq q name)) [
     | inl e ↦ subst (λ z. IfSome (new.object q) (InLine (if z then provenance else provenances q))) (sym e) (subst (λ z. IfSome (new.object z) (InLine provenance)) (sym (same_bytes q name e)) (subst (λ z. IfSome z (InLine provenance)) (sym is) s))
     | inr e ↦ subst (λ z. IfSome (new.object q) (InLine (if z then provenance else provenances q))) (sym e) (subst (λ z. IfSome z (InLine (provenances q))) (sym (others q (other_bytes q name e))) (all.each q))
   ];

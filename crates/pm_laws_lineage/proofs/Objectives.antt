@@ -24,6 +24,7 @@ use Rattle.std.specs.List.{All}
 use Rattle.std.specs.Option.{is_some, unwrap_or}
 use Rattle.std.specs.Prelude.{Bool, List, None, Option, Some, [], if◌then◌else◌, map, nat_eq, not, ℕ, ◌++◌, ◌||◌, ◌∷◌, ◌≡◌}
 use lib.IntN.{pos}
+use Rattle.std.proofs.Math.Bool.{or-false}
 
 -- ---- it is no half of a pair, and right in all orders
 no_first_half : (v : PropertyValue) (p : PropId) (w : PropertyValue) (t : Thing) → RightPair LinearObjective v p w t
@@ -55,17 +56,13 @@ one_more xs new t p before after r right = record {
     both f g (there i) (there j) = r.together f g (Contains_among i) (Contains_among j)
 
 -- ---- what goes without saying is the same
-or_false : (b : Bool) → (b || false) ≡ b
-or_false true = refl
-or_false false = refl
-
 map_append : {A B : Type 0} (f : A → B) (xs ys : List A) → map f (xs ++ ys) ≡ map f xs ++ map f ys
 map_append f [] ys = refl
 map_append f (x ∷ xs) ys = ap (λ t. f x ∷ t) (map_append f xs ys)
 
 still_held : (p : PropId) (s : ℕ) (v : PropertyValue) (held : List HeldValue) → same_property p LinearObjective ≡ false → is_held p (held ++ given_at (Some s) LinearObjective v ∷ []) ≡ is_held p held
 still_held p s v held e =
-    held_append p held (given_at (Some s) LinearObjective v ∷ []) ∙ ap (λ t. is_held p held || is_some (if t then Some v else None)) e ∙ or_false (is_held p held)
+    held_append p held (given_at (Some s) LinearObjective v ∷ []) ∙ ap (λ t. is_held p held || is_some (if t then Some v else None)) e ∙ or-false (is_held p held)
 
 pub same_names : (s : ℕ) (v : PropertyValue) (held : List HeldValue) → names_to_settle (held ++ given_at (Some s) LinearObjective v ∷ []) ≡ names_to_settle held
 same_names s v held =

@@ -9,7 +9,7 @@ use Rattle.pm_laws_lineage.proofs.Sound.{ensured_in_part_keeps}
 use Rattle.pm_laws_lineage.proofs.Steps.{named_object, none_in_line, run_line}
 use Rattle.pm_laws_lineage.specs.Laws.{StepsInPartKeepLineage, new_records}
 use Rattle.pm_laws_lineage.specs.Provenances.{AllStandFor, Provenance, Provenances, StandsFor, lineage_of}
-use Rattle.pm_machine.proofs.Keeping.{decide, other_bytes, same_bytes}
+use Rattle.pm_machine.proofs.Keeping.{other_bytes, same_bytes}
 use Rattle.pm_machine.proofs.Kept.{honesty}
 use Rattle.pm_machine.specs.Building.{EnsuresInPart, Wanted, wanted_all}
 use Rattle.pm_machine.specs.Machines.{Becomes, Machine}
@@ -24,6 +24,7 @@ use Rattle.pm_rounds.specs.declared.round.Ending.TheVariants as ending
 use Rattle.pm_rules.specs.declared.rule.Rule.{Rule}
 use Rattle.std.proofs.Common.{bytes_eq, inl, inr, subst, sym}
 use Rattle.std.specs.Prelude.{IfSome, List, None, Option, Some, [], ℕ, ◌∷◌, ◌≡◌}
+use Rattle.std.proofs.lemmas.Bool.{cases_Bool}
 
 part_stands_for : (book : List Rule) (provenance : Provenance) (sub : Option ℕ) (asked : PropSet) (old new : Configuration) → EnsuredInPart unsaid book sub asked old new → InLine provenance old.object → StandsFor (lineage_of provenance new.object) new.object
 part_stands_for book provenance sub asked old new part s =
@@ -35,7 +36,7 @@ module _ (book : List Rule) (provenances : Provenances) where
 
   part_stands : (sub : Option ℕ) (asked : PropSet) (old new : Machine) (name : List ℕ) (o : State) (now : Configuration) → old.object name ≡ Some o → EnsuredInPart unsaid book sub asked (configuration o old.clients) now → Becomes name now old new → AllInLine provenances old → AllStandFor provenances new
   part_stands sub asked old new name o now at part becomes all = record {
-    each = λ q. elim (decide (bytes_eq q name)) [
+    each = λ q. elim (cases_Bool (bytes_eq q name)) [
       | inl e ↦ subst (λ z. IfSome (new.object z) (λ o. StandsFor (lineage_of (provenances z) o) o)) (sym (same_bytes q name e))
           (subst (λ z. IfSome z (λ o. StandsFor (lineage_of (provenances name) o) o)) (sym becomes.object)
           (part_stands_for book (provenances name) sub asked (configuration o old.clients) now part (line_at provenances old name o at all)))

@@ -4,7 +4,7 @@ use Rattle.pm_filing.specs.Filing.{loaded_object, unsettled_object}
 use Rattle.pm_filing.specs.Whole.{IsLoadedAgain, held_again, is_kept}
 use Rattle.pm_laws_lineage.proofs.Counts.{agrees_so, all_at, built_savable, counted, first_at, no_names, not_known, settled_states_none, shape_savable}
 use Rattle.pm_laws_lineage.proofs.Names.{among_fifth, among_first, among_fourth, among_second, among_third, each_of_five}
-use Rattle.pm_laws_lineage.proofs.Saved.{apart, both, decide, had, has_or_unsaid, in_settling, is_not, loaded_again_stands, not_both, not_said, of_held}
+use Rattle.pm_laws_lineage.proofs.Saved.{apart, had, has_or_unsaid, in_settling, loaded_again_stands, not_both, not_said, of_held}
 use Rattle.pm_laws_lineage.proofs.Saying.{settling_says}
 use Rattle.pm_laws_lineage.specs.Provenances.{is_savable, states_one_count}
 use Rattle.pm_laws_lineage.specs.Saved.{LoadedUnaskedStands, MadeAreSavable}
@@ -20,7 +20,7 @@ use Rattle.pm_types.specs.Forms.{stated_cols}
 use Rattle.pm_vector.proofs.Filters.{among_map, map_among}
 use Rattle.pm_vector.proofs.Lists.{Among, Contains_among, among_Contains, among_append, among_append_left, among_append_right}
 use Rattle.std.proofs.Common.{ap, false, inl, inr, refl, subst, sym, true, true≢false, ◌∙◌}
-use Rattle.std.proofs.lemmas.Bool.{and_parts, eqb-true}
+use Rattle.std.proofs.lemmas.Bool.{and_from, and_parts, cases_Bool, eqb-true, not-true}
 use Rattle.std.specs.List.{Contains}
 use Rattle.std.specs.Option.{unwrap_or}
 use Rattle.std.specs.Prelude.{Bool, List, None, Option, Some, [], if◌then◌else◌, length, map, nat_eq, not, ℕ, ◌&&◌, ◌||◌, ◌≡◌}
@@ -37,7 +37,7 @@ module _ (book : List Rule) (o : State) (f : SavedFile) (placed : (h : HeldValue
     where
       by : (t : Bool) → is_held p (unsettled_object book f).held ≡ t → not t ≡ true
       by false k = refl
-      by true k = absurd (not_both (had book o f placed again p k) (is_not _ e))
+      by true k = absurd (not_both (had book o f placed again p k) (not-true _ e))
 
   in_file : (p : PropId) → has_program p ≡ false → (Among p (names_to_settle (unsettled_object book f).held) → ⊥) → is_held p o.held ≡ true → is_held p (unsettled_object book f).held ≡ true
   in_file p own never e = elim (has_or_unsaid book o f placed again p own e) [ inl k ↦ k | inr k ↦ absurd (never k) ]
@@ -101,14 +101,14 @@ module _ (book : List Rule) (o : State) (f : SavedFile) (placed : (h : HeldValue
     where
       dimension : not (is_held ConeAmbientDim o.held) ≡ true → Among (settled (unwrap_or (cols_of o.held) 1) ConeAmbientDim) (settling (unsettled_object book f))
       dimension h =
-          subst (λ z. Among (settled z ConeAmbientDim) (settling (unsettled_object book f))) (same_columns h (subst (λ t. (t || states_one_count o.held) ≡ true) (is_not _ h) counts))
+          subst (λ z. Among (settled z ConeAmbientDim) (settling (unsettled_object book f))) (same_columns h (subst (λ t. (t || states_one_count o.held) ≡ true) (not-true _ h) counts))
           (among_map (settled n) (among_first _ _ _ _ _ (lacked ConeAmbientDim h)))
 
       lineality : (is_held Points o.held && not (is_held InputLineality o.held)) ≡ true → Among (settled (unwrap_or (cols_of o.held) 1) InputLineality) (settling (unsettled_object book f))
-      lineality h = let (a, b) = and_parts _ _ h in among_map (settled n) (among_second _ _ _ _ _ (both _ _ (told Points refl refl refl refl refl refl a) (lacked InputLineality b)))
+      lineality h = let (a, b) = and_parts _ _ h in among_map (settled n) (among_second _ _ _ _ _ (and_from _ _ (told Points refl refl refl refl refl refl a) (lacked InputLineality b)))
 
       equations : (is_held Inequalities o.held && not (is_held Equations o.held)) ≡ true → Among (settled (unwrap_or (cols_of o.held) 1) Equations) (settling (unsettled_object book f))
-      equations h = let (a, b) = and_parts _ _ h in among_map (settled n) (among_third _ _ _ _ _ (both _ _ (told Inequalities refl refl refl refl refl refl a) (lacked Equations b)))
+      equations h = let (a, b) = and_parts _ _ h in among_map (settled n) (among_third _ _ _ _ _ (and_from _ _ (told Inequalities refl refl refl refl refl refl a) (lacked Equations b)))
 
       space : (is_held Vertices o.held && not (is_held Points o.held) && not (is_held Inequalities o.held) && not (is_held Facets o.held && is_held AffineHull o.held) && not (is_held LinealitySpace o.held)) ≡ true
           → Among (settled (unwrap_or (cols_of o.held) 1) LinealitySpace) (settling (unsettled_object book f))
@@ -117,12 +117,12 @@ module _ (book : List Rule) (o : State) (f : SavedFile) (placed : (h : HeldValue
           let (abc, d) = and_parts _ _ abcd in
           let (ab, c) = and_parts _ _ abc in
           let (a, b) = and_parts _ _ ab in
-          among_map (settled n) (among_fourth _ _ _ _ _ (both _ _ (both _ _ (both _ _ (both _ _ (told Vertices refl refl refl refl refl refl a) (lacked Points b)) (lacked Inequalities c)) (no_pair d)) (lacked LinealitySpace e)))
+          among_map (settled n) (among_fourth _ _ _ _ _ (and_from _ _ (and_from _ _ (and_from _ _ (and_from _ _ (told Vertices refl refl refl refl refl refl a) (lacked Points b)) (lacked Inequalities c)) (no_pair d)) (lacked LinealitySpace e)))
         where
           no_pair : not (is_held Facets o.held && is_held AffineHull o.held) ≡ true → not (is_held Facets (unsettled_object book f).held && is_held AffineHull (unsettled_object book f).held) ≡ true
-          no_pair d = elim (decide (is_held Facets (unsettled_object book f).held && is_held AffineHull (unsettled_object book f).held)) [
+          no_pair d = elim (cases_Bool (is_held Facets (unsettled_object book f).held && is_held AffineHull (unsettled_object book f).held)) [
             | inr k ↦ ap not k
-            | inl k ↦ (let (a, b) = and_parts _ _ k in absurd (not_both (both _ _ (had book o f placed again Facets a) (had book o f placed again AffineHull b)) (is_not _ d)))
+            | inl k ↦ (let (a, b) = and_parts _ _ k in absurd (not_both (and_from _ _ (had book o f placed again Facets a) (had book o f placed again AffineHull b)) (not-true _ d)))
           ]
 
       hull : (is_held Facets o.held && not (is_held Points o.held) && not (is_held Inequalities o.held) && not (is_held Vertices o.held) && not (is_held AffineHull o.held)) ≡ true
@@ -132,7 +132,7 @@ module _ (book : List Rule) (o : State) (f : SavedFile) (placed : (h : HeldValue
           let (abc, d) = and_parts _ _ abcd in
           let (ab, c) = and_parts _ _ abc in
           let (a, b) = and_parts _ _ ab in
-          among_map (settled n) (among_fifth _ _ _ _ _ (both _ _ (both _ _ (both _ _ (both _ _ (told Facets refl refl refl refl refl refl a) (lacked Points b)) (lacked Inequalities c)) (lacked Vertices d)) (lacked AffineHull e)))
+          among_map (settled n) (among_fifth _ _ _ _ _ (and_from _ _ (and_from _ _ (and_from _ _ (and_from _ _ (told Facets refl refl refl refl refl refl a) (lacked Points b)) (lacked Inequalities c)) (lacked Vertices d)) (lacked AffineHull e)))
 
   settling_again : is_savable o ≡ true → (h : HeldValue) → Among h (settling o) → Among (held_again h) (loaded_object book f).held
   settling_again savable h i = by (has_rounds o) (nat_eq (length (names_to_settle o.held)) 0) refl refl savable

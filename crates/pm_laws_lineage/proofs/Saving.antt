@@ -5,7 +5,6 @@ use Rattle.pm_laws_lineage.proofs.Laws.{build_laws}
 use Rattle.pm_laws_lineage.proofs.Lines.{line_at, refusal_given}
 use Rattle.pm_laws_lineage.proofs.Objectives.{same_names}
 use Rattle.pm_laws_lineage.proofs.Placed.{given_placed, loaded_placed, made_placed}
-use Rattle.pm_laws_lineage.proofs.Saved.{decide}
 use Rattle.pm_laws_lineage.proofs.Saying.{ensured_is_said, settling_says}
 use Rattle.pm_laws_lineage.proofs.Steps.{none_in_line, run_line}
 use Rattle.pm_laws_lineage.specs.Laws.{Leads, new_records}
@@ -25,7 +24,7 @@ use Rattle.pm_script.specs.Replies.{ReplySeen}
 use Rattle.pm_types.specs.Values.{PropertyValue}
 use Rattle.pm_vector.proofs.Lists.{Contains_among, among_Contains, among_append}
 use Rattle.std.proofs.Common.{ap, false, inl, inr, refl, subst, sym, true, true≢false, ◌∙◌}
-use Rattle.std.proofs.lemmas.Bool.{or_parts}
+use Rattle.std.proofs.lemmas.Bool.{cases_Bool, or_parts}
 use Rattle.std.specs.Option.{is_some}
 use Rattle.std.specs.Prelude.{Bool, IfSome, List, None, Option, Some, [], if◌then◌else◌, length, nat_eq, not, ℕ, ◌++◌, ◌&&◌, ◌||◌, ◌∷◌, ◌≡◌}
 
@@ -79,7 +78,7 @@ said_savable o e = ap (λ ps. nat_eq (length ps) 0 || (not (has_rounds o) && (is
 pub objects_are_savable : ObjectsAreSavable
 objects_are_savable book start end provenances later run none leads q o is why =
     let line = line_at later.provenances end q o is (run_line build_laws book start end (new_records provenances) later run leads (λ b l i. elim i [ ]) (none_in_line provenances start none)) in
-    elim (decide (has_rounds o)) [
+    elim (cases_Bool (has_rounds o)) [
       | inr e ↦ counts_savable o e line.count
       | inl e ↦ elim why [
         | inl f ↦ absurd (true≢false (sym e ∙ f))

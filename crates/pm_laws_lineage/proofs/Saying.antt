@@ -2,7 +2,7 @@
 -- descriptions together.
 use Rattle.pm_client.specs.Meanings.{unsaid}
 use Rattle.pm_laws_lineage.proofs.Names.{AllFalse, none_of_five}
-use Rattle.pm_laws_lineage.proofs.Saved.{both, decide, held_of, is_not, not_both, of_held}
+use Rattle.pm_laws_lineage.proofs.Saved.{held_of, not_both, of_held}
 use Rattle.pm_laws_lineage.proofs.Twice.{none, nothing_more}
 use Rattle.pm_laws_lineage.specs.Saved.{EnsuredIsSaid, IsSaid, IsSaidOnce, KeepsHalves, StandardBooksKeepHalves, StandardKindsKeepHalves, keeps_halves, names}
 use Rattle.pm_object.proofs.Formed.{held_stays}
@@ -28,7 +28,7 @@ use Rattle.pm_types.specs.Values.{Fact}
 use Rattle.pm_vector.proofs.Filters.{among_filter, among_map, any_to, filter_among, map_among}
 use Rattle.pm_vector.proofs.Lists.{Among, Contains_among, among_All, among_Contains, among_append, among_append_left, among_append_right, here, there}
 use Rattle.std.proofs.Common.{ap, append-nil, false, inl, inr, refl, subst, sym, true, true≢false, ◌∙◌}
-use Rattle.std.proofs.lemmas.Bool.{and_parts}
+use Rattle.std.proofs.lemmas.Bool.{and_from, and_parts, cases_Bool, false_from_ne_true, not-true}
 use Rattle.std.proofs.lemmas.List.Sums.{AllPass-from_list_all}
 use Rattle.std.specs.List.{Contains}
 use Rattle.std.proofs.lemmas.Option.{same_Some}
@@ -54,10 +54,6 @@ standard_books_keep_halves = record {
       let (c, j, is) = map_among standard_rule standard_clients i in
       subst (λ z. Among z standard_kinds_list) (sym (ap (λ (z : Rule). z.kind) is)) (among_append_left (map standard_kind wide_clients) (among_map standard_kind j)));
 }
-
-refute : (b : Bool) → (b ≡ true → ⊥) → b ≡ false
-refute true f = absurd (f refl)
-refute false f = refl
 
 or_cases : (a b : Bool) → (a || b) ≡ true → (a ≡ true) ⊎ (b ≡ true)
 or_cases true b h = inl refl
@@ -89,7 +85,7 @@ module _ (o : State) (sub : Option ℕ) (kind : Kind) (n : ℕ) (answer : List F
   target_held : (p : PropId) → has kind.targets p ≡ true → is_held p (o.held ++ computed (missing sub (facts o.held) answer)) ≡ true
   target_held p h =
       let (f, i, is) = map_among (λ (f : Fact). f.property) answer (subst (λ z. Among p z) (sym may.targets) (members_among kind.targets p h)) in
-      elim (decide (is_named (facts o.held) sub f.property)) [
+      elim (cases_Bool (is_named (facts o.held) sub f.property)) [
         | inl e ↦ later p (named_held p (subst (λ q. is_named (facts o.held) sub q ≡ true) (sym is) e))
         | inr e ↦ of_held p (o.held ++ computed (missing sub (facts o.held) answer)) (record { place = f.place; property = f.property; value = f.value; origin = _ })
             (among_append_right o.held (among_map (λ (f : Fact). record { place = f.place; property = f.property; value = f.value; origin = _ }) (among_filter (λ f. not (is_named (facts o.held) sub f.property)) i (ap not e)))) (sym is)
@@ -119,10 +115,10 @@ module _ (o : State) (sub : Option ℕ) (kind : Kind) (n : ℕ) (answer : List F
       ]
 
   not_before : (p : PropId) → not (is_held p (o.held ++ computed (missing sub (facts o.held) answer))) ≡ true → not (is_held p o.held) ≡ true
-  not_before p e = ap not (refute (is_held p o.held) (λ h. not_both (later p h) (is_not _ e)))
+  not_before p e = ap not (false_from_ne_true (is_held p o.held) (λ h. not_both (later p h) (not-true _ e)))
 
   lacking : (p : PropId) → not (is_held p (o.held ++ computed (missing sub (facts o.held) answer))) ≡ true → is_held p (o.held ++ computed (missing sub (facts o.held) answer)) ≡ true → ⊥
-  lacking p e h = not_both h (is_not _ e)
+  lacking p e h = not_both h (not-true _ e)
 
   abbrev first_rule : Bool
   first_rule = not (has kind.targets Points) || names kind InputLineality
@@ -161,42 +157,42 @@ module _ (o : State) (sub : Option ℕ) (kind : Kind) (n : ℕ) (answer : List F
 
   half : (p q : PropId) → (is_held p o.held && not (is_held q o.held)) ≡ false → (not (has kind.targets p) || names kind q) ≡ true
       → (is_held p (o.held ++ computed (missing sub (facts o.held) answer)) && not (is_held q (o.held ++ computed (missing sub (facts o.held) answer)))) ≡ false
-  half p q old rule = refute _ (λ h.
+  half p q old rule = false_from_ne_true _ (λ h.
       let (a, b) = and_parts _ _ h in
       elim (held_or_target p a) [
-        | inl k ↦ not_both (both _ _ k (not_before q b)) old
+        | inl k ↦ not_both (and_from _ _ k (not_before q b)) old
         | inr k ↦ lacking q b (name_held q (if_target _ _ rule k))
       ])
 
   space : (is_held Vertices (o.held ++ computed (missing sub (facts o.held) answer)) && not (is_held Points (o.held ++ computed (missing sub (facts o.held) answer))) && not (is_held Inequalities (o.held ++ computed (missing sub (facts o.held) answer)))
       && not (is_held Facets (o.held ++ computed (missing sub (facts o.held) answer)) && is_held AffineHull (o.held ++ computed (missing sub (facts o.held) answer))) && not (is_held LinealitySpace (o.held ++ computed (missing sub (facts o.held) answer)))) ≡ false
-  space = refute _ (λ h.
+  space = false_from_ne_true _ (λ h.
       let (abcd, e) = and_parts _ _ h in
       let (abc, d) = and_parts _ _ abcd in
       let (ab, c) = and_parts _ _ abc in
       let (a, b) = and_parts _ _ ab in
       elim (held_or_target Vertices a) [
         | inl k ↦ not_both
-            (both _ _ (both _ _ (both _ _ (both _ _ k (not_before Points b)) (not_before Inequalities c))
-            (ap not (refute (is_held Facets o.held && is_held AffineHull o.held) (λ w. let (f, g) = and_parts _ _ w in not_both (both _ _ (later Facets f) (later AffineHull g)) (is_not _ d))))) (not_before LinealitySpace e))
+            (and_from _ _ (and_from _ _ (and_from _ _ (and_from _ _ k (not_before Points b)) (not_before Inequalities c))
+            (ap not (false_from_ne_true (is_held Facets o.held && is_held AffineHull o.held) (λ w. let (f, g) = and_parts _ _ w in not_both (and_from _ _ (later Facets f) (later AffineHull g)) (not-true _ d))))) (not_before LinealitySpace e))
             before.fourth
         | inr k ↦ elim (if_target_4 (has kind.targets Vertices) (names kind LinealitySpace) (names kind Points) (names kind Inequalities) (names kind Facets && names kind AffineHull) parts.2 k) [
           | inl w ↦ lacking LinealitySpace e (name_held LinealitySpace w)
           | inr (inl w) ↦ lacking Points b (name_held Points w)
           | inr (inr (inl w)) ↦ lacking Inequalities c (name_held Inequalities w)
-          | inr (inr (inr w)) ↦ (let (f, g) = and_parts _ _ w in not_both (both _ _ (name_held Facets f) (name_held AffineHull g)) (is_not _ d))
+          | inr (inr (inr w)) ↦ (let (f, g) = and_parts _ _ w in not_both (and_from _ _ (name_held Facets f) (name_held AffineHull g)) (not-true _ d))
         ]
       ])
 
   hull : (is_held Facets (o.held ++ computed (missing sub (facts o.held) answer)) && not (is_held Points (o.held ++ computed (missing sub (facts o.held) answer))) && not (is_held Inequalities (o.held ++ computed (missing sub (facts o.held) answer)))
       && not (is_held Vertices (o.held ++ computed (missing sub (facts o.held) answer))) && not (is_held AffineHull (o.held ++ computed (missing sub (facts o.held) answer)))) ≡ false
-  hull = refute _ (λ h.
+  hull = false_from_ne_true _ (λ h.
       let (abcd, e) = and_parts _ _ h in
       let (abc, d) = and_parts _ _ abcd in
       let (ab, c) = and_parts _ _ abc in
       let (a, b) = and_parts _ _ ab in
       elim (held_or_target Facets a) [
-        | inl k ↦ not_both (both _ _ (both _ _ (both _ _ (both _ _ k (not_before Points b)) (not_before Inequalities c)) (not_before Vertices d)) (not_before AffineHull e)) before.fifth
+        | inl k ↦ not_both (and_from _ _ (and_from _ _ (and_from _ _ (and_from _ _ k (not_before Points b)) (not_before Inequalities c)) (not_before Vertices d)) (not_before AffineHull e)) before.fifth
         | inr k ↦ elim (if_target_4 (has kind.targets Facets) (names kind AffineHull) (names kind Points) (names kind Inequalities) (names kind Vertices) parts.3 k) [
           | inl w ↦ lacking AffineHull e (name_held AffineHull w)
           | inr (inl w) ↦ lacking Points b (name_held Points w)
@@ -208,7 +204,7 @@ module _ (o : State) (sub : Option ℕ) (kind : Kind) (n : ℕ) (answer : List F
   pub commit_says : IsSaid (with_held o (computed (missing sub (facts o.held) answer)))
   commit_says = record {
     nothing = none _ _ _ _ _
-        (refute _ (λ h. lacking ConeAmbientDim h (later ConeAmbientDim (by (is_held ConeAmbientDim o.held) before.first))))
+        (false_from_ne_true _ (λ h. lacking ConeAmbientDim h (later ConeAmbientDim (by (is_held ConeAmbientDim o.held) before.first))))
         (half Points InputLineality before.second parts.0) (half Inequalities Equations before.third parts.1) space hull;
     placed = λ h i own. elim (among_append o.held (computed (missing sub (facts o.held) answer)) (among_Contains _ i)) [
       | inl j ↦ said.placed h (Contains_among j) own

@@ -37,10 +37,11 @@ use Rattle.pm_rounds.specs.declared.round.Ending.TheVariants as ending
 use Rattle.pm_rules.specs.declared.rule.Rule.{Rule}
 use Rattle.pm_script.specs.Replies.{ReplySeen}
 use Rattle.pm_types.specs.Values.{Fact, PropertyValue}
-use Rattle.pm_machine.proofs.Keeping.{decide, other_bytes, same_bytes}
+use Rattle.pm_machine.proofs.Keeping.{other_bytes, same_bytes}
 use Rattle.std.proofs.Common.{ap, append-nil, bytes_eq, false, inl, inr, refl, subst, sym, true, true≢false, ◌∙◌}
 use Rattle.std.specs.Option.{is_some, option_and_then, option_map}
 use Rattle.std.specs.Prelude.{Bool, IfSome, List, None, Option, Some, [], if◌then◌else◌, ℕ, ◌++◌, ◌∷◌, ◌≡◌}
+use Rattle.std.proofs.lemmas.Bool.{cases_Bool}
 
 some_is : {A : Type 0} {a b : A} → Some a ≡ Some b → a ≡ b
 some_is h = cc
@@ -105,7 +106,7 @@ loaded_stands_sound book l f stands = λ u d.
 
 loaded_sound : (book : List Rule) (saved : List (List ℕ × Lineage)) (bytes : List ℕ) (f : SavedFile) → AllSaved book saved → Reads bytes f → Sound (provenance_loaded saved bytes) (loaded_object book f)
 loaded_sound book [] bytes f all reads = tt
-loaded_sound book (s ∷ saved) bytes f all reads = elim (decide (bytes_eq s.0 bytes)) [
+loaded_sound book (s ∷ saved) bytes f all reads = elim (cases_Bool (bytes_eq s.0 bytes)) [
   | inl e ↦ subst (λ t. Sound (if t then made s.1 else provenance_loaded saved bytes) (loaded_object book f)) (sym e)
       (loaded_stands_sound book s.1 f (all s.0 s.1 here f (subst (λ z. Reads z f) (sym (same_bytes s.0 bytes e)) reads)))
   | inr e ↦ subst (λ t. Sound (if t then made s.1 else provenance_loaded saved bytes) (loaded_object book f)) (sym e)
@@ -253,7 +254,7 @@ module _ (laws : BuildLaws) (book : List Rule) (provenances : Provenances) where
   drop_line : (old new : Machine) (name : List ℕ) (reply : ReplySeen) → DropStep old name reply new → AllInLine provenances old → AllInLine provenances new
   drop_line old new name _ (steps.is_refused r s) all = stays old new s all
   drop_line old new name _ (steps.is_dropped told h l) all = record {
-    each = λ q. elim (decide (bytes_eq q name)) [
+    each = λ q. elim (cases_Bool (bytes_eq q name)) [
       | inl e ↦ subst (λ z. IfSome z (InLine (provenances q))) (sym (ap new.object (same_bytes q name e) ∙ l.object)) tt
       | inr e ↦ subst (λ z. IfSome z (InLine (provenances q))) (sym (l.others q (other_bytes q name e))) (all.each q)
     ];

@@ -5,7 +5,7 @@ use Rattle.pm_vector.proofs.Ring.{ring}
 use Rattle.pm_vector.proofs.RowLaws.{entry-plus, entry-times, length-plus}
 use Rattle.pm_vector.specs.Cones.{InCone, InSpan, combination}
 use Rattle.pm_vector.specs.Rows.{Row, entry, plus, times}
-use Rattle.pm_laws_placing.proofs.LeastSums.{Zero, bool_cases, entry-over, combination-over, independent, length-over}
+use Rattle.pm_laws_placing.proofs.LeastSums.{Zero, entry-over, combination-over, independent, length-over}
 use Rattle.pm_laws_placing.specs.LeastSums.{at, has, Within, InCell, IsLeastCell, over}
 use Rattle.pm_geom.specs.Triangulations.{rows_at, shared}
 use Rattle.pm_geom.proofs.Independent.{combination_append}
@@ -13,7 +13,7 @@ use Rattle.pm_geom.specs.Faces.{ray}
 use Rattle.pm_geom.specs.Graphs.{holds}
 use Rattle.std.specs.Prelude.{ℕ, zero, suc, ◌<◌, ◌==◌, ◌≡◌, ◌⊎◌, ◌||◌, Bool, IsTrue, true, false, cond, drop, take, List, [], ◌∷◌, ◌++◌, length, map}
 use Rattle.std.proofs.Common.{arith, ap, refl, sym, subst, ◌∙◌, inl, inr}
-use Rattle.std.proofs.lemmas.Bool.{eq-eqb, eqb-true}
+use Rattle.std.proofs.lemmas.Bool.{cases_Bool, eq-eqb, eqb-true}
 use Rattle.std.proofs.lemmas.Int.{ints}
 use native.Mathlib.Decide.{ℕ_discrete}
 use lib.IntN.{ℤ, pos, ◌+ℤ◌, ◌-ℤ◌, ◌*ℤ◌}
@@ -45,7 +45,7 @@ holds_among (x ∷ xs) j h = elim (or_cases (x == j) (holds xs j) h) [
 ]
 
 pub holds_not : (xs : List ℕ) (j : ℕ) → ¬ (Among j xs) → holds xs j ≡ false
-holds_not xs j never = elim (bool_cases (holds xs j)) [ inl t ↦ absurd (never (holds_among xs j t)) | inr f ↦ f ]
+holds_not xs j never = elim (cases_Bool (holds xs j)) [ inl t ↦ absurd (never (holds_among xs j t)) | inr f ↦ f ]
 
 -- s without k
 pub record Without (k : ℕ) (s : List ℕ) : Type 0 where
@@ -292,7 +292,7 @@ module _ (G L : List Row) (P : List ℕ) where
       let a = among_at (f k ik) in
       let lp = length-put h.m a.0 (rows_at G P) in
       let z = independent (rows_at G P) L cell.c cell.is_least (over (put h.m a.0 (rows_at G P)) (pos 1) r.e) (length-over (length (rows_at G P)) (put h.m a.0 (rows_at G P)) (pos 1) r.e lp r.as_many)
-      (λ j zj. zero_at a.0 a.1 r j (elim (bool_cases (has (mask P s) j)) [ inl t ↦ absurd (let p = cell.positive j t in omega (arith, ints)) | inr e ↦ e ]))
+      (λ j zj. zero_at a.0 a.1 r j (elim (cases_Bool (has (mask P s) j)) [ inl t ↦ absurd (let p = cell.positive j t in omega (arith, ints)) | inr e ↦ e ]))
       (record {
         m = pos 1;
         c = [];
@@ -320,7 +320,7 @@ module _ (G L : List Row) (P : List ℕ) where
           entry-over (put h.m q (rows_at G P)) (pos 1) r.e j
           ∙ both_zero (at (put h.m q (rows_at G P)) j) (at r.e j)
           (at_put_other h.m q (rows_at G P) j (λ je. clash (at_has s a ∙ among_holds s k ik) (ap (has (mask P s)) (sym je) ∙ e)))
-          (r.within j (elim (bool_cases (has (mask P rest.rest) j)) [
+          (r.within j (elim (cases_Bool (has (mask P rest.rest) j)) [
             | inr n ↦ n
             | inl t ↦ let w = has_at rest.rest P j t in absurd (clash (at_has s w.1 ∙ among_holds s w.0 (rest.to w.0 w.2).0) e)
           ]))

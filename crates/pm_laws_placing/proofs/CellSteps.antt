@@ -7,7 +7,7 @@ use Rattle.pm_vector.proofs.Spans.{span_of}
 use Rattle.pm_laws_placing.proofs.CellMasks.{At, Without, among_holds, among_rows_at, at_among, at_below, at_has, at_of, at_ray, cell_free, has_at, holds_among, holds_not, length_rows_at, mask, rows_at_among, without}
 use Rattle.pm_laws_placing.proofs.FacetSpans.{exchanged_span, facet_span, on_lines}
 use Rattle.pm_laws_placing.proofs.FullSums.{Full, Spans, full}
-use Rattle.pm_laws_placing.proofs.LeastSums.{bool_cases, exchanged, nonneg_at, nonneg_from}
+use Rattle.pm_laws_placing.proofs.LeastSums.{exchanged, nonneg_at, nonneg_from}
 use Rattle.pm_laws_placing.proofs.PlacingStep.{dot_parts_zero, parts_zero, placing_step}
 use Rattle.pm_laws_placing.specs.LeastSums.{IsLeastCell, IsLeastList, IsPlaced, Walls, Within, at, has}
 use Rattle.pm_laws_placing.specs.Placing.{IsExchange, IsNextCells, IsOnlyOff}
@@ -26,6 +26,7 @@ use Rattle.std.proofs.lemmas.Int.{ints}
 use native.Mathlib.Decide.{ℕ_discrete}
 use lib.IntN.{ℤ, pos}
 use lib.Signed.{◌<ℤ◌, ◌≤ℤ◌}
+use Rattle.std.proofs.lemmas.Bool.{cases_Bool}
 
 pub map_among : {A B : Type 0} (f : A → B) (xs : List A) {y : B} → Among y (map f xs) → (x : A) × Among x xs × (f x ≡ y)
 map_among f [] i = elim i [ ]
@@ -193,7 +194,7 @@ module _ (n : ℕ) (G L : List Row) (P : List ℕ) (T U : List (List ℕ)) (F : 
       -- the places with a positive number stand in t, on the row
       positive_at : (p q : ℕ) → At p q P → pos 0 <ℤ at most.e q → Among p t × (dot a (ray G p) ≡ pos 0)
       positive_at p q i h = (
-        elim (bool_cases (has (mask P t) q)) [
+        elim (cases_Bool (has (mask P t) q)) [
           | inl e ↦ holds_among t p (sym (at_has t i) ∙ e)
           | inr e ↦ absurd (let z = within q e in omega (arith, ints))
         ],

@@ -17,6 +17,7 @@ use Rattle.std.proofs.Common.{arith, refl, sym, ap, ◌∙◌, inl, inr}
 use Rattle.std.proofs.lemmas.Int.{ints, by_lt_z}
 use lib.IntN.{ℤ, pos, negsuc, ◌+ℤ◌, ◌-ℤ◌, ◌*ℤ◌, neg_ℤ}
 use lib.Signed.{◌<ℤ◌, ◌≤ℤ◌, lt_z_yes}
+use Rattle.std.proofs.lemmas.Bool.{cases_Bool}
 
 pub neg_one : (m a : ℤ) → negsuc 0 *ℤ m *ℤ a ≡ neg_ℤ (m *ℤ a)
 neg_one m a = ap (λ z. z *ℤ a) (neg-mul (pos 1) m ∙ ap neg_ℤ (one_mul m)) ∙ neg-mul m a
@@ -191,10 +192,6 @@ module _ (W L : List Row) where
           omega (arith, ints)
 
 -- ---- cells
-pub bool_cases : (b : Bool) → (b ≡ true) ⊎ (b ≡ false)
-bool_cases true = inl refl
-bool_cases false = inr refl
-
 and_false : (a b : Bool) → (a && b) ≡ false → (a ≡ false) ⊎ (b ≡ false)
 and_false true b h = inr h
 and_false false b h = inl refl
@@ -207,7 +204,7 @@ common_false (a ∷ s) (b ∷ t) (suc j) h = common_false s t j h
 
 module _ (W L : List Row) (s : List Bool) (cell : IsLeastCell W L s) where
   on_cell : (c : List ℤ) → Within s c → (j : ℕ) → at cell.c j ≡ pos 0 → at c j ≡ pos 0
-  on_cell c w j z = elim (bool_cases (has s j)) [ inl h ↦ absurd (let p = cell.positive j h in omega (arith, ints)) | inr h ↦ w j h ]
+  on_cell c w j z = elim (cases_Bool (has s j)) [ inl h ↦ absurd (let p = cell.positive j h in omega (arith, ints)) | inr h ↦ w j h ]
 
   cell_least : {x : Row} → (i : InCell W L s x) → IsLeast W L i.c
   cell_least i = exchanged W L cell.c cell.is_least i.c i.as_many i.not_negative (on_cell i.c i.within)

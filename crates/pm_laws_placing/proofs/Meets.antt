@@ -6,12 +6,13 @@ use Rattle.pm_vector.specs.Cones.{InCone}
 use Rattle.pm_vector.specs.Rows.{HasCols, Row}
 use Rattle.pm_laws_placing.proofs.CellMasks.{At, among_rows_at, at_here, at_of, at_ray, at_there, holds_among, length_rows_at, mask, shared_from, sum_in, to_cell}
 use Rattle.pm_laws_placing.proofs.CellSteps.{Carried, among_map}
-use Rattle.pm_laws_placing.proofs.LeastSums.{bool_cases, least_cells_triangulate}
+use Rattle.pm_laws_placing.proofs.LeastSums.{least_cells_triangulate}
 use Rattle.pm_laws_placing.specs.LeastSums.{InCell, IsCellList, common, has}
 use Rattle.pm_geom.specs.Triangulations.{rows_at, shared}
 use Rattle.pm_geom.specs.Graphs.{holds}
 use Rattle.std.specs.Prelude.{ℕ, ◌<◌, ◌&&◌, ◌≡◌, Bool, true, false, List, map}
 use Rattle.std.proofs.Common.{refl, sym, subst, ◌∙◌, inl, inr}
+use Rattle.std.proofs.lemmas.Bool.{cases_Bool}
 
 common_at : (s t : List ℕ) {p : ℕ} {q : ℕ} {P : List ℕ} → At p q P → has (common (mask P s) (mask P t)) q ≡ (holds s p && holds t p)
 common_at s t at_here = refl
@@ -31,7 +32,7 @@ unfolding NonNeg
 from_cell G L P r m f x i =
     in_divide i.positive (in_same (same_sym i.same) (in_plus
     (sum_in (rows_at G r) L i.c (rows_at G P) i.not_negative
-    (λ q l. elim (bool_cases (has m q)) [
+    (λ q l. elim (cases_Bool (has m q)) [
       | inr e ↦ inl (i.within q e)
       | inl t ↦ inr (let w = at_of P q (subst (λ (k : ℕ). q < k) (length_rows_at G P) l) in in_generator (subst (λ (y : Row). Among y (rows_at G r)) (sym (at_ray G w.1)) (among_rows_at G r w.0 (f w.0 q w.1 t))))
     ]))

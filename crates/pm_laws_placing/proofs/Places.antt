@@ -1,11 +1,11 @@
 -- The places of a list in the stated order.
 use Rattle.pm_vector.proofs.Lists.{Among, among_append, among_append_left, among_append_right, here, there}
-use Rattle.pm_laws_placing.proofs.LeastSums.{bool_cases}
 use Rattle.pm_laws_placing.specs.LeastSums.{has}
 use Rattle.pm_laws_placing.specs.Placing.{places_marked, stated_places}
 use Rattle.std.specs.Prelude.{ℕ, zero, suc, ◌+◌, ◌<◌, ◌≤◌, ◌≡◌, ◌⊎◌, Bool, true, false, List, [], ◌∷◌, ◌++◌, length, take}
 use Rattle.std.specs.List.{AllPairs, slice_index_or}
 use Rattle.std.proofs.Common.{arith, ap, refl, sym, subst, ◌∙◌, inl, inr}
+use Rattle.std.proofs.lemmas.Bool.{cases_Bool}
 
 -- ---- the places with a mark
 pub marked_in : (b : Bool) (marks : List Bool) (i p : ℕ) → Among p (places_marked b marks i) → (q : ℕ) × (p ≡ i + q) × (q < length marks) × (has marks q ≡ b)
@@ -146,7 +146,7 @@ module _ (marks : List Bool) where
   length_stated = length_append (places_marked true marks 0) (places_marked false marks 0) ∙ length_false marks 0
 
   pub stated_all : (p : ℕ) → p < length marks → Among p (stated_places marks)
-  stated_all p l = elim (bool_cases (has marks p)) [
+  stated_all p l = elim (cases_Bool (has marks p)) [
     | inl t ↦ among_append_left (places_marked false marks 0) (in_marked true marks 0 p p l t (omega arith))
     | inr f ↦ among_append_right (places_marked true marks 0) (in_marked false marks 0 p p l f (omega arith))
   ]
@@ -186,7 +186,7 @@ module _ (marks : List Bool) where
 
   -- past the first front, all lower places come before
   pub stated_lower : (k q : ℕ) → length (places_marked true marks 0) ≤ k → k < length marks → q < slice_index_or (stated_places marks) k 0 → q < length marks → Among q (take k (stated_places marks))
-  stated_lower k q m l below lq = elim (bool_cases (has marks q)) [
+  stated_lower k q m l below lq = elim (cases_Bool (has marks q)) [
     | inl t ↦ marked_front q lq t k m
     | inr f ↦ later k (excess (length (places_marked true marks 0)) k m) l below f
   ]

@@ -7,7 +7,7 @@ use Rattle.pm_vector.proofs.Signs.{mul_cancel, mul_nonneg, mul_pos, times_both, 
 use Rattle.pm_vector.specs.Cones.{InCone, InSpan, combination}
 use Rattle.pm_vector.specs.Rows.{HasCols, Row, dot, entry, plus, times}
 use Rattle.pm_laws_placing.specs.LeastSums.{at, has, Within, IsLexNegative, over, IsLeast, IsLeastCell, Walls, IsPlaced, IsLeastList, PlacingStep}
-use Rattle.pm_laws_placing.proofs.LeastSums.{neg_one, entry-over, nonneg_from, nonneg_at, exchanged, bool_cases}
+use Rattle.pm_laws_placing.proofs.LeastSums.{neg_one, entry-over, nonneg_from, nonneg_at, exchanged}
 use Rattle.pm_geom.proofs.Facets.{dot-opposite}
 use Rattle.pm_geom.proofs.Polar.{cut_from}
 use Rattle.pm_geom.specs.Faces.{ray}
@@ -18,6 +18,7 @@ use Rattle.std.proofs.lemmas.Int.{ints, by_lt_z}
 use native.Mathlib.Decide.{dec_lt}
 use lib.IntN.{ℤ, pos, negsuc, ◌+ℤ◌, ◌-ℤ◌, ◌*ℤ◌, neg_ℤ, zero-*ℤ, +ℤ_idl}
 use lib.Signed.{◌<ℤ◌, ◌≤ℤ◌, lt_z_yes}
+use Rattle.std.proofs.lemmas.Bool.{cases_Bool}
 
 tail_zero : (k c0 e0 v e c : ℤ) → e0 ≡ k *ℤ c0 → (e0 *ℤ v +ℤ e) -ℤ k *ℤ (c0 *ℤ v +ℤ c) ≡ e -ℤ k *ℤ c
 tail_zero k c0 e0 v e c z = simp (z, ring) (omega (arith, ints))
@@ -282,12 +283,12 @@ module _ (n : ℕ) (W L A : List Row) (v : Row) (hW : HasCols n W) (hL : HasCols
     where
       small : IsLeast W L (restrict cell.c t)
       small = exchanged W L cell.c cell.is_least (restrict cell.c t) (length-restrict cell.c t ∙ cell.is_least.as_many)
-          (nonneg_from (restrict cell.c t) (λ j. elim (bool_cases (has t j)) [ inl h ↦ (let e = restrict_in cell.c t j h in let p = nonneg_at cell.c cell.is_least.not_negative j in omega (arith, ints)) | inr h ↦ (let e = restrict_out cell.c t j h in omega (arith, ints)) ]))
-          (λ j z. elim (bool_cases (has t j)) [ inl h ↦ restrict_in cell.c t j h ∙ z | inr h ↦ restrict_out cell.c t j h ])
+          (nonneg_from (restrict cell.c t) (λ j. elim (cases_Bool (has t j)) [ inl h ↦ (let e = restrict_in cell.c t j h in let p = nonneg_at cell.c cell.is_least.not_negative j in omega (arith, ints)) | inr h ↦ (let e = restrict_out cell.c t j h in omega (arith, ints)) ]))
+          (λ j z. elim (cases_Bool (has t j)) [ inl h ↦ restrict_in cell.c t j h ∙ z | inr h ↦ restrict_out cell.c t j h ])
 
       least : IsLeast (v ∷ W) L (pos 1 ∷ restrict cell.c t)
       least = least_wall W L v a (above a i) (λ l k. walls.flat a l (Contains_among i) (Contains_among k)) below (restrict cell.c t)
-          (dot_parts_zero a (restrict cell.c t) W (λ j. elim (bool_cases (has t j)) [ inl h ↦ inr (f j h).1 | inr h ↦ inl (restrict_out cell.c t j h) ])) small
+          (dot_parts_zero a (restrict cell.c t) W (λ j. elim (cases_Bool (has t j)) [ inl h ↦ inr (f j h).1 | inr h ↦ inl (restrict_out cell.c t j h) ])) small
 
       go : (j : ℕ) → has (true ∷ t) j ≡ true → pos 0 <ℤ at (pos 1 ∷ restrict cell.c t) j
       go zero h = lt_z_yes tt
@@ -317,7 +318,7 @@ module _ (n : ℕ) (W L A : List Row) (v : Row) (hW : HasCols n W) (hL : HasCols
         clash : true ≡ false → ⊥
         clash h = cc
     wall_within s t a c0 c l w parts f (suc j) h =
-        elim (bool_cases (has s j)) [
+        elim (cases_Bool (has s j)) [
           | inr no_s ↦ w j no_s
           | inl in_s ↦ elim (dec_lt j (length W)) [
             | no nl ↦ past c j (omega arith)

@@ -9,7 +9,6 @@ use Rattle.pm_vector.specs.Bases.{row_at}
 use Rattle.pm_laws_placing.proofs.CellSteps.{Carried, among_map, carried_on, map_among}
 use Rattle.pm_laws_placing.proofs.CellMasks.{among_rows_at, mask, rows_at_among}
 use Rattle.pm_laws_placing.proofs.Different.{same_cell, same_facet}
-use Rattle.pm_laws_placing.proofs.LeastSums.{bool_cases}
 use Rattle.pm_laws_placing.proofs.Meets.{meet}
 use Rattle.pm_laws_placing.proofs.Places.{Rising, front_marked, length_stated, marked_front, rising_of, stated_below, stated_fresh, stated_lower, take_among, take_newest, take_next, take_older}
 use Rattle.pm_laws_placing.proofs.Starts.{Free, carried_first, free_independent}
@@ -25,7 +24,7 @@ use Rattle.pm_geom.specs.Graphs.{IsAscending}
 use Rattle.std.specs.Prelude.{ℕ, zero, suc, ◌+◌, ◌<◌, ◌≤◌, ◌≡◌, ◌↔◌, Bool, true, false, List, [], ◌∷◌, ◌++◌, length, map, take}
 use Rattle.std.specs.List.{Contains, slice_index_or}
 use Rattle.std.proofs.Common.{arith, ap, refl, sym, subst, ◌∙◌, inl, inr}
-use Rattle.std.proofs.lemmas.Bool.{cases_lt}
+use Rattle.std.proofs.lemmas.Bool.{cases_Bool, cases_lt}
 use native.Mathlib.Decide.{ℕ_discrete}
 
 -- ---- rows of K ++ G
@@ -159,7 +158,7 @@ module _ (n : ℕ) (K G L : List Row) (hK : HasCols n K) (hG : HasCols n G) (hL 
       at_row zero p u v = absurd (omega arith)
       at_row (suc i) p u v = elim (cases_lt p (length K)) [
         | inl k ↦ span_of (rows_at G pl.first ++ L) L (λ y b. in_line (among_append_right (rows_at G pl.first) b)) (k_span (row_at (K ++ G) p) (row_first K G p k))
-        | inr k ↦ (let w = difference_of (length K) p k in elim (bool_cases (has pl.marks p)) [
+        | inr k ↦ (let w = difference_of (length K) p k in elim (cases_Bool (has pl.marks p)) [
           | inl t ↦ subst (λ (q : ℕ). InSpan (rows_at G pl.first ++ L) (row_at (K ++ G) q)) (sym w.1) (subst (λ (y : Row). InSpan (rows_at G pl.first ++ L) y) (sym (row_past K G w.0)) (in_line (among_append_left L (among_rows_at G pl.first w.0
               (among_Contains pl.first ((pl.is_first.same w.0).1 (Contains_among (subst (λ (q : ℕ). Among q (take (length (places_marked true pl.marks 0)) (stated_places pl.marks))) w.1 (marked_front pl.marks p (let b = marks_many in omega arith) t (length (places_marked true pl.marks 0)) (omega arith))))))))))
           | inr e ↦ span_of (rows_at G pl.first ++ L) (take p (K ++ G)) (λ y b. let r = take_in (K ++ G) p y b in subst (λ (z : Row). InSpan (rows_at G pl.first ++ L) z) r.3 (at_row i r.0 (let c = r.1 in omega arith) r.2)) (unmarked p v e)

@@ -22,6 +22,7 @@ use Rattle.pm_laws_replies.proofs.Lines.{Later, Whole, more, none, whole_append}
 use Rattle.pm_laws_replies.proofs.OneLine.{first_of, high_first, low_first, no_space, plain_json, plain_map}
 use Rattle.pm_laws_replies.proofs.Words.{all_more, name_bytes, plain_word}
 use Rattle.pm_laws_replies.proofs.Blocks.{is_barred_line, is_evidence_line, is_excluded_line, is_round, is_row_line, is_rule_line, later_all, later_map, low_append, low_cost}
+use Rattle.std.proofs.Math.Bool.{and-false}
 
 -- ---- heads of texts
 abbrev pub starts : List ℕ → List ℕ → Bool
@@ -74,10 +75,6 @@ pub named_own : (name text : List ℕ) → named name (name ++ 32 ∷ text) ≡ 
 named_own [] text = refl
 named_own (a ∷ name) text = ap (λ b. b && named name (name ++ 32 ∷ text)) (eqb_same a) ∙ named_own name text
 
-and_false : (b : Bool) → (b && false) ≡ false
-and_false true = refl
-and_false false = refl
-
 spaced_not : (b : ℕ) → not (eqb b 32) ≡ true → eqb b 32 ≡ false
 spaced_not b h = by (eqb b 32) h
   where
@@ -90,13 +87,13 @@ not_named [] [] text h k l = l
 not_named [] (b ∷ word) text h k l = ap (λ c. c && high_first (word ++ 32 ∷ text)) (spaced_not b (and_parts (not (eqb b 32)) (no_space word) k).0)
 not_named (a ∷ name) [] text h k l = ap (λ c. c && named name text) (spaced_not a (and_parts (not (eqb a 32)) (no_space name) h).0)
 not_named (a ∷ name) (b ∷ word) text h k l =
-    ap (λ c. eqb a b && c) (not_named name word text (and_parts (not (eqb a 32)) (no_space name) h).1 (and_parts (not (eqb b 32)) (no_space word) k).1 l) ∙ and_false (eqb a b)
+    ap (λ c. eqb a b && c) (not_named name word text (and_parts (not (eqb a 32)) (no_space name) h).1 (and_parts (not (eqb b 32)) (no_space word) k).1 l) ∙ and-false (eqb a b)
 
 pub nowhere_named : (name text : List ℕ) → no_space text ≡ true → named name text ≡ false
 nowhere_named [] [] k = refl
 nowhere_named [] (b ∷ text) k = ap (λ c. c && high_first text) (spaced_not b (and_parts (not (eqb b 32)) (no_space text) k).0)
 nowhere_named (a ∷ name) [] k = refl
-nowhere_named (a ∷ name) (b ∷ text) k = ap (λ c. eqb a b && c) (nowhere_named name text (and_parts (not (eqb b 32)) (no_space text) k).1) ∙ and_false (eqb a b)
+nowhere_named (a ∷ name) (b ∷ text) k = ap (λ c. eqb a b && c) (nowhere_named name text (and_parts (not (eqb b 32)) (no_space text) k).1) ∙ and-false (eqb a b)
 
 -- a word alone in its line is no name before a value
 pub not_named_line : (name word text : List ℕ) → is_one_line name ≡ true → no_space word ≡ true → named name (word ++ 10 ∷ text) ≡ false
@@ -111,7 +108,7 @@ not_named_line (a ∷ name) [] text h k = ap (λ c. c && named name text) (not_l
         by true h = absurd (true≢false (sym h))
         by false h = refl
 not_named_line (a ∷ name) (b ∷ word) text h k =
-    ap (λ c. eqb a b && c) (not_named_line name word text (and_parts (is_in_line a) (is_one_line name) h).1 (and_parts (not (eqb b 32)) (no_space word) k).1) ∙ and_false (eqb a b)
+    ap (λ c. eqb a b && c) (not_named_line name word text (and_parts (is_in_line a) (is_one_line name) h).1 (and_parts (not (eqb b 32)) (no_space word) k).1) ∙ and-false (eqb a b)
 
 pub low_not_high : (text : List ℕ) → low_first text ≡ true → high_first text ≡ false
 low_not_high [] h = refl

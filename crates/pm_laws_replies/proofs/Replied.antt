@@ -2,7 +2,7 @@
 use Rattle.std.proofs.Common.{ap, append_assoc, refl, subst, sym, true≢false, ℕ, List, [], ◌∷◌, ◌++◌, Bool, true, false, ◌≡◌, ◌∙◌, ◌||◌, Option, Some, None, if◌then◌else◌, codes, flat_map, length}
 use Rattle.std.specs.List.{list_all}
 use Rattle.std.specs.Fmt.{decimal}
-use Rattle.std.proofs.lemmas.Bool.{and_parts}
+use Rattle.std.proofs.lemmas.Bool.{and_parts, or_right}
 use Rattle.pm_command.specs.Commands.{RefSeen, Spoken, blank, new_object, take_value, give_value, look_up, ensure_values, explain_values, tell_history, show_object, tell_evidence, show_rules, disable_rule, unload_client, copy_object, drop_object, tell_origin, load_object, save_object, make_object, build_object}
 use Rattle.pm_command.specs.Grammar.{is_ref, is_sub, part_text, ref_text}
 use Rattle.pm_command.specs.Words.{is_name}
@@ -111,10 +111,6 @@ rounds_later (save_object name file) t r b l = absurd (true≢false (sym b))
 rounds_later (make_object to shape) t r b l = absurd (true≢false (sym b))
 
 -- ---- a value
-or_right : (a b : Bool) → b ≡ true → (a || b) ≡ true
-or_right true b h = refl
-or_right false b h = h
-
 high_append : (a b : List ℕ) → high_first a ≡ true → high_first (a ++ b) ≡ true
 high_append [] b h = absurd (true≢false (sym h))
 high_append (x ∷ a) b h = h

@@ -2,7 +2,7 @@
 use Rattle.std.proofs.Common.{◌≡◌, ◌∙◌, ◌++◌, ◌&&◌, ◌<◌, ℕ, Bool, true, false, not, nat_eq, IsTrue, Some, List, [], ◌∷◌, All, ap, append-nil, append_assoc, arith, codes, cond, leb, length, map, refl, subst, sym}
 use Rattle.std.specs.List.{flat_map, list_all}
 use Rattle.std.specs.Str.{bytes_eq}
-use Rattle.std.proofs.lemmas.Bool.{and_parts}
+use Rattle.std.proofs.lemmas.Bool.{and_parts, not-true}
 use Rattle.std.proofs.lemmas.List.Elements.{All-head, All-tail}
 use Rattle.std.proofs.lemmas.Slice.Eq.{bytes_eq-Decides}
 use Rattle.pm_books.specs.Grammar.{Condition, Written, behind_comma, condition_item, name_item, precondition_words, separated, words_of}
@@ -21,16 +21,12 @@ IsReadyAt due had now rules = ⊥
 abbrev pub IsReady : State → List Written → Type 0
 IsReady s rules = IsReadyAt s.due s.had s.now rules
 
-pub not_true : (b : Bool) → not b ≡ true → b ≡ false
-not_true true e = cc
-not_true false e = refl
-
 pub label_is_other : (word : List ℕ) → is_label word ≡ true → bytes_eq word precondition_word ≡ false
 label_is_other word e =
     let one = and_parts (is_word word) (leb (length word) 32 && (list_all (λ b. not (nat_eq b 46)) word && not (bytes_eq word precondition_word))) e in
     let two = and_parts (leb (length word) 32) (list_all (λ b. not (nat_eq b 46)) word && not (bytes_eq word precondition_word)) one.1 in
     let three = and_parts (list_all (λ b. not (nat_eq b 46)) word) (not (bytes_eq word precondition_word)) two.1 in
-    not_true (bytes_eq word precondition_word) three.1
+    not-true (bytes_eq word precondition_word) three.1
 
 pub label_step : (due : Due) (had : List Written) (now : Written) (rules : List Written) (word : List ℕ) → IsReadyAt due had now rules → is_label word ≡ true → step_at due had now word ≡ Some (at colon rules (labelled word))
 label_step label had now rules word ready e = ap (λ (b : Bool). when b (at colon had (labelled word))) e ∙ ap (λ (l : List Written). Some (at colon l (labelled word))) (sym ready)

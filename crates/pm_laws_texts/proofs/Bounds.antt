@@ -4,7 +4,7 @@ use Rattle.std.specs.Prelude.{All, fold}
 use Rattle.std.proofs.lemmas.Bool.{false≢true}
 use Rattle.std.proofs.lemmas.List.Elements.{All-cons, All-nil}
 use Rattle.std.proofs.lemmas.List.Sums.{count_by-le-length, sum_by-cons}
-use Rattle.std.proofs.lemmas.Option.{slice_get-get_or, slice_get_within}
+use Rattle.std.proofs.lemmas.Option.{same_Some, slice_get-get_or, slice_get_within}
 use Rattle.pm_limits.specs.Limits.{most_weight}
 use Rattle.pm_vector.proofs.Lists.{Among, here, there}
 use Rattle.pm_props.specs.declared.property.PropId.{PropId}
@@ -65,9 +65,6 @@ less_of s t p (q ∷ ps) before new here = omega (arith, counted (union s t) q p
 less_of s t p (q ∷ ps) before new (there among) = omega (arith, counted (union s t) q ps, counted s q ps, no_more s t q, less_of s t p ps before new among)
 
 -- ---- chains
-some_same : {X : Type 0} (x y : X) → Some x ≡ Some y → x ≡ y
-some_same x y e = cc
-
 module _ (book : List Rule) (is : IsBook book) (names : PropSet) (barred : List RuleId) where
   -- a chain is no longer than what is not held
   short : (held : PropSet) (chain : List RuleId) → IsChain book names barred held chain → length chain ≤ free held every_property
@@ -84,7 +81,7 @@ module _ (book : List Rule) (is : IsBook book) (names : PropSet) (barred : List 
   rule_is : (id : RuleId) (rule : Rule) → rule_at book id ≡ Some rule → IsRule rule
   rule_is id rule at =
       let within = slice_get_within book id.0 rule at in
-      let same : get_or book id.0 rule ≡ rule = some_same (get_or book id.0 rule) rule (sym (slice_get-get_or book id.0 rule within) ∙ at) in
+      let same : get_or book id.0 rule ≡ rule = same_Some (get_or book id.0 rule) rule (sym (slice_get-get_or book id.0 rule within) ∙ at) in
       subst IsRule same (is.each id.0 rule within)
 
   -- its rules are of the book

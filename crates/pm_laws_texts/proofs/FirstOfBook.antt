@@ -2,7 +2,7 @@
 use Rattle.std.proofs.Common.{◌≡◌, ◌∙◌, ◌++◌, ◌+◌, ◌<◌, ◌≤◌, ◌&&◌, ◌⊎◌, ℕ, Bool, true, false, not, All, None, Some, Result, Ok, Err, List, [], ◌∷◌, ap, append-nil, append_assoc, arith, cond, eqb, inl, inr, length, map, refl, subst, sym}
 use Rattle.std.specs.List.{flat_map}
 use Rattle.std.specs.Str.{bytes_eq}
-use Rattle.std.proofs.lemmas.Bool.{and_parts, both_ways, cases_Bool, eq-eqb, eqb-true, eqb-false}
+use Rattle.std.proofs.lemmas.Bool.{and_parts, both_ways, cases_Bool, eq-eqb, eqb-false, eqb-true, not-true}
 use Rattle.std.proofs.lemmas.List.Concat.{flat_map-append}
 use Rattle.std.proofs.lemmas.List.Elements.{All-cons, All-head, All-nil, All-tail}
 use Rattle.std.proofs.lemmas.Slice.Eq.{bytes_eq-Decides}
@@ -18,7 +18,7 @@ use Rattle.pm_rules.specs.declared.rule.Rule.{Rule}
 use Rattle.pm_laws_texts.specs.BookFaults.{AreRules, Begin, CountsFirst, Differs, HasFault, HasForm, IsAt, IsEnd, IsFirstFault, OfCondition, OfLabel, OfName, OfWord, Spot, order, place}
 use Rattle.pm_laws_texts.specs.BookFaults.HasFault.{ends_too_soon, no_such_word, of_rule, of_word}
 use Rattle.pm_laws_texts.specs.BookLaws.{FirstFaultIsRead, Tells}
-use Rattle.pm_laws_texts.proofs.Along.{IsReady, label_step, not_true, rule_walk, rules_from_start, rules_walk}
+use Rattle.pm_laws_texts.proofs.Along.{IsReady, label_step, rule_walk, rules_from_start, rules_walk}
 use Rattle.pm_laws_texts.proofs.Ends.{rules_behind, walk_begins}
 use Rattle.pm_laws_texts.proofs.Going.{Goes, HasAgreed, Halts, IsFine, goes_walk}
 use Rattle.pm_laws_texts.proofs.Going.Halts.{no_step, too_soon, wrong}
@@ -388,7 +388,7 @@ module _ (kinds : List Kind) (text : List ℕ) (before : List Token) (last : Tok
       by (t ∷ more) e = elim (cases_Bool (eqb t.place (last.place + 1) && not (is_label t.text))) as (λ x. IsFirstFault kinds text (cond (eqb t.place (last.place + 1) && not (is_label t.text)) (Syntax (last.place + 1)) (SignatureMismatch (last.place + 1)))) [
         | inl both ↦ (let parts = and_parts (eqb t.place (last.place + 1)) (not (is_label t.text)) both in
             subst (λ (b : Bool). IsFirstFault kinds text (cond b (Syntax (last.place + 1)) (SignatureMismatch (last.place + 1)))) (sym both)
-            (syntax_here t more e (eqb-true t.place (last.place + 1) parts.0) (not_true (is_label t.text) parts.1)))
+            (syntax_here t more e (eqb-true t.place (last.place + 1) parts.0) (not-true (is_label t.text) parts.1)))
         | inr neither ↦ subst (λ (b : Bool). IsFirstFault kinds text (cond b (Syntax (last.place + 1)) (SignatureMismatch (last.place + 1)))) (sym neither) (mismatch_here t more e (λ same. is_true t same neither))
       ]
 

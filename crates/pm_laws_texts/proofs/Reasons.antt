@@ -3,7 +3,7 @@ use Rattle.std.proofs.Common.{◌≡◌, ◌∙◌, ℕ, zero, suc, ◌<◌, ◌
 use Rattle.std.specs.Prelude.{codes, map, nat_eq, nat_le, if◌then◌else◌}
 use Rattle.std.specs.List.{find}
 use Rattle.std.specs.Option.{is_some}
-use Rattle.std.proofs.lemmas.Bool.{eqb-true}
+use Rattle.std.proofs.lemmas.Bool.{and_from, eqb-true, false_from_ne_true, or_left, or_right}
 use Rattle.std.proofs.lemmas.Bool.Decides.{nat_tests}
 use Rattle.std.proofs.lemmas.List.Elements.{Contains-append_right}
 use Rattle.std.proofs.lemmas.List.Folds.{list_all-append}
@@ -34,19 +34,8 @@ use Rattle.pm_script.specs.declared.names.Bar.TheVariants as bar
 use Rattle.pm_laws_texts.proofs.OtherBars.{BarSame}
 
 -- ---- truth values
-left_true : (a b : Bool) → a ≡ true → (a || b) ≡ true
-left_true a b e = ap (λ (x : Bool). x || b) e
-
-right_true : (a b : Bool) → b ≡ true → (a || b) ≡ true
-right_true true b e = refl
-right_true false b e = e
-
 both_false : (a b : Bool) → a ≡ false → b ≡ false → (a || b) ≡ false
 both_false a b e f = ap (λ (x : Bool). x || b) e ∙ f
-
-not_true : (a : Bool) → (a ≡ true → ⊥) → a ≡ false
-not_true true none = absurd (none refl)
-not_true false none = refl
 
 -- ---- plain text
 evidence_small : (e : Evidence) → evidence_number e < 10
@@ -68,12 +57,9 @@ IsSmallBar (bar.False p) = Unit {0}
 IsSmallBar bar.Disabled = Unit {0}
 IsSmallBar bar.NoClient = Unit {0}
 
-both_true : (a b : Bool) → a ≡ true → b ≡ true → (a && b) ≡ true
-both_true a b e f = ap (λ (x : Bool). x && b) e ∙ f
-
 failed_is_plain : (k : ℕ) → k < 10 → is_plain (failed_text k) ≡ true
 failed_is_plain k small =
-    list_all-append (λ b. nat_le 32 b && nat_le b 126) (codes "failed E") (decimal k) ∙ both_true _ _ refl (cost_is_plain (record { class = 0; minor = k }) (record { class = omega arith; minor = omega arith }))
+    list_all-append (λ b. nat_le 32 b && nat_le b 126) (codes "failed E") (decimal k) ∙ and_from _ _ refl (cost_is_plain (record { class = 0; minor = k }) (record { class = omega arith; minor = omega arith }))
 
 false_is_plain : (p : PropId) → is_plain (false_text p) ≡ true
 false_is_plain p = all_properties (λ q. is_plain (false_text q)) refl p
@@ -130,14 +116,14 @@ same_id a b e = ap (λ (n : ℕ). record { 0 = n }) e
 -- a list has the number of a rule that it tells
 any_here : (told : List (RuleId × Bar)) (id : RuleId) → (x : RuleId × Bar) × Contains told x × (x.0 ≡ id) → is_barred (map (λ x. x.0) told) id ≡ true
 any_here [] id (x, here, same) = absurd (omega (arith, here.1))
-any_here (y ∷ told) id (x, (zero, within, e), same) = left_true (nat_eq y.0.0 id.0) _ (eq-eqb y.0.0 id.0 (ap (λ (z : RuleId × Bar). z.0.0) e ∙ ap (λ (i : RuleId). i.0) same))
-any_here (y ∷ told) id (x, (suc k, within, e), same) = right_true (nat_eq y.0.0 id.0) _ (any_here told id (x, (k, omega arith, e), same))
+any_here (y ∷ told) id (x, (zero, within, e), same) = or_left (nat_eq y.0.0 id.0) _ (eq-eqb y.0.0 id.0 (ap (λ (z : RuleId × Bar). z.0.0) e ∙ ap (λ (i : RuleId). i.0) same))
+any_here (y ∷ told) id (x, (suc k, within, e), same) = or_right (nat_eq y.0.0 id.0) _ (any_here told id (x, (k, omega arith, e), same))
 
 -- and that of no other
 any_nowhere : (told : List (RuleId × Bar)) (id : RuleId) → ((x : RuleId × Bar) → Contains told x → x.0 ≡ id → ⊥) → is_barred (map (λ x. x.0) told) id ≡ false
 any_nowhere [] id none = refl
 any_nowhere (y ∷ told) id none =
-    both_false (nat_eq y.0.0 id.0) _ (not_true (nat_eq y.0.0 id.0) (λ t. none y (0, omega arith, refl) (same_id y.0 id (eqb-true y.0.0 id.0 t))))
+    both_false (nat_eq y.0.0 id.0) _ (false_from_ne_true (nat_eq y.0.0 id.0) (λ t. none y (0, omega arith, refl) (same_id y.0 id (eqb-true y.0.0 id.0 t))))
     (any_nowhere told id (λ x here same. none x (Contains-append_right (y ∷ []) told x here) same))
 
 module _ (book : List Rule) (clients : Clients) (o : State) (sub : Option ℕ) (formed : IsFormed o) (told : List (RuleId × Bar)) (are : AreReasons book clients o sub told) where

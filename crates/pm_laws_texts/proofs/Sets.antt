@@ -12,7 +12,7 @@ use Rattle.pm_limits.specs.Limits.{most_rows}
 use Rattle.serde_json.specs.Data.{Data, Items, array, boolean, item, no_items, null, number, object, string}
 use Rattle.serde_json.specs.Find.{get_item}
 use Rattle.std.proofs.Common.{ap, arith, cond, eqb, false, inl, inr, refl, subst, sym, true, true≢false, ◌∙◌}
-use Rattle.std.proofs.lemmas.Bool.{eq-eqb, eqb-true, ltb-false, ltb-true}
+use Rattle.std.proofs.lemmas.Bool.{eq-eqb, eqb-true, ltb-false, ltb-true, or_left, or_right}
 use Rattle.std.specs.Prelude.{Bool, Err, List, Ok, Some, [], if◌then◌else◌, nat_lt, suc, ℕ, ◌+◌, ◌<◌, ◌||◌, ◌≡◌, ◌≤◌, ◌⊎◌, ◌∷◌}
 use lib.IntN.{ℤ, negsuc, pos}
 
@@ -80,14 +80,6 @@ holds_none all = record { from = λ j h. absurd (true≢false (sym h)); to = λ 
 pub or_cases : (a b : Bool) → (a || b) ≡ true → (a ≡ true) ⊎ (b ≡ true)
 or_cases true b h = inl refl
 or_cases false b h = inr h
-
-or_left : (a b : Bool) → a ≡ true → (a || b) ≡ true
-or_left true b h = refl
-or_left false b h = absurd (true≢false (sym h))
-
-or_right : (a b : Bool) → b ≡ true → (a || b) ≡ true
-or_right true b h = refl
-or_right false b h = h
 
 cases_below : (p k : ℕ) → p < suc k → (p < k) ⊎ (p ≡ k)
 cases_below p k h = grind arith

@@ -23,7 +23,8 @@ use Rattle.pm_script.specs.declared.refusal.Refusal.TheVariants.{Crowded, NoChai
 use Rattle.std.proofs.Common.{ap, arith, false, inl, inr, refl, sym, true, true≢false, ◌∙◌}
 use Rattle.std.proofs.lemmas.Bool.{and_parts}
 use Rattle.std.specs.Option.{is_some}
-use Rattle.std.specs.Prelude.{Bool, List, None, Some, [], ℕ, ◌&&◌, ◌∷◌, ◌≡◌, ◌≢◌}
+use Rattle.std.specs.Prelude.{List, None, Some, [], ℕ, ◌&&◌, ◌∷◌, ◌≡◌, ◌≢◌}
+use Rattle.std.proofs.Math.Bool.{and-false}
 
 -- what is so of a shape that is made
 module _ (old new : Machine) (to : List ℕ) (shape : ShapeSeen) (t : Rounds) where
@@ -68,10 +69,6 @@ nothing_of_it : (book : List Rule) (old new : Machine) (w : Wanted) → old.obje
 nothing_of_it book old new w none h = elim h [ inl s ↦ s | inr m ↦ elim m [ inl p ↦ absurd (some_not_none (sym p.named ∙ none)) | inr q ↦ absurd (some_not_none (sym q.2.named ∙ none)) ] ]
 
 -- ---- operands
-and_false : (x : Bool) → (x && false) ≡ false
-and_false true = refl
-and_false false = refl
-
 -- the object of the name is a cone, so it is no polytope
 cone_is_none : (b : Builder) (old : Machine) (name : List ℕ) → (row_of b).of ≡ Polytope → old.object name ≡ Some (empty_object Cone) → is_of_type (row_of b).of (old.object name) ≡ false
 cone_is_none b old name type is = ap (is_of_type (row_of b).of) is ∙ ap (λ z. same_type z Cone) type
@@ -114,10 +111,10 @@ wanted_is_ensured = record {
 }
 
 second_missing : (m : Machine) (first second : List ℕ) → m.object second ≡ None → are_named (shelf m) (first ∷ second ∷ []) ≡ false
-second_missing m first second none = ap (λ z. is_some (m.object first) && (is_some z && true)) none ∙ and_false (is_some (m.object first))
+second_missing m first second none = ap (λ z. is_some (m.object first) && (is_some z && true)) none ∙ and-false (is_some (m.object first))
 
 second_cone : (m : Machine) (first second : List ℕ) → m.object second ≡ Some (empty_object Cone) → are_of Polytope (shelf m) (first ∷ second ∷ []) ≡ false
-second_cone m first second is = ap (λ z. is_of_type Polytope (m.object first) && (is_of_type Polytope z && true)) is ∙ and_false (is_of_type Polytope (m.object first))
+second_cone m first second is = ap (λ z. is_of_type Polytope (m.object first) && (is_of_type Polytope z && true)) is ∙ and-false (is_of_type Polytope (m.object first))
 
 both_there : (m : Machine) (first second : List ℕ) (o p : State) → m.object first ≡ Some o → m.object second ≡ Some p → are_named (shelf m) (first ∷ second ∷ []) ≡ true
 both_there m first second o p at at' = ap (λ z. is_some z && (is_some (m.object second) && true)) at ∙ ap (λ z. is_some z && true) at'

@@ -3,7 +3,6 @@ use Rattle.pm_client.specs.Meanings.{Meanings}
 use Rattle.pm_vector.proofs.Filters.{among_map}
 use Rattle.pm_vector.proofs.Lists.{All_among, Among, among_append_left, among_append_right, here, there}
 use Rattle.pm_command.specs.declared.building.Builder.{Builder}
-use Rattle.pm_machine.proofs.Keeping.{decide}
 use Rattle.pm_machine.specs.Building.{EnsuresAll, EnsuresOne, Wanted, are_of, is_of_type, wanted_all, wanted_of}
 use Rattle.pm_making.specs.Rows.{row_of, same_type}
 use Rattle.pm_machine.specs.Built.{HasRead, HaveRead}
@@ -25,7 +24,7 @@ use Rattle.pm_props.specs.declared.set.PropSet.{PropSet}
 use Rattle.pm_rules.specs.declared.rule.Rule.{Rule}
 use Rattle.pm_types.specs.Values.{PropertyValue}
 use Rattle.std.proofs.Common.{ap, arith, bytes_eq, eqb, false, inl, inr, refl, subst, suc, sym, true, true≢false, ◌∙◌}
-use Rattle.std.proofs.lemmas.Bool.{and_parts}
+use Rattle.std.proofs.lemmas.Bool.{and_parts, cases_Bool}
 use Rattle.std.proofs.lemmas.List.{append-nil, append_assoc}
 use Rattle.std.specs.List.{AllByRecursion}
 use Rattle.std.proofs.lemmas.Option.{none-some, same_Some}
@@ -158,7 +157,7 @@ pub record HasGrown (q : List ℕ) (o : State) (new : Machine) : Type 0 where
 
 module _ (M : Meanings) (book : List Rule) where
   one_grows : (w : Wanted) (e : Ending) (rounds : List RoundSeen) (old new : Machine) (q : List ℕ) (o : State) → EnsuresOne M book w e rounds old new → old.object q ≡ Some o → HasGrown q o new
-  one_grows w e rounds old new q o one is = elim (decide (bytes_eq q w.name)) [
+  one_grows w e rounds old new q o one is = elim (cases_Bool (bytes_eq q w.name)) [
     | inl same ↦ (
         let at : q ≡ w.name = (bytes_eq-Decides q w.name).0 same in
         let it : one.object ≡ o = same_Some _ _ (sym one.named ∙ sym (ap old.object at) ∙ is) in
@@ -172,7 +171,7 @@ module _ (M : Meanings) (book : List Rule) where
   ]
 
   one_none : (w : Wanted) (e : Ending) (rounds : List RoundSeen) (old new : Machine) (q : List ℕ) → EnsuresOne M book w e rounds old new → old.object q ≡ None → new.object q ≡ None
-  one_none w e rounds old new q one none = elim (decide (bytes_eq q w.name)) [
+  one_none w e rounds old new q one none = elim (cases_Bool (bytes_eq q w.name)) [
     | inl same ↦ absurd (none-some _ (sym none ∙ ap old.object ((bytes_eq-Decides q w.name).0 same) ∙ one.named))
     | inr other ↦ one.becomes.others q (λ at. true≢false (sym ((bytes_eq-Decides q w.name).1 at) ∙ other)) ∙ none
   ]

@@ -12,13 +12,10 @@ use Rattle.pm_rounds.specs.Events.{Configuration, Ensured, EnsuredInPart, config
 use Rattle.pm_rounds.specs.declared.round.Ending.{Ending}
 use Rattle.pm_rules.specs.declared.rule.Rule.{Rule}
 use Rattle.pm_types.specs.Values.{PropertyValue}
-use Rattle.std.proofs.Common.{ap, bytes_eq, false, inl, inr, refl, subst, sym, true, true≢false, ◌∙◌, ◌≢◌}
+use Rattle.std.proofs.Common.{ap, bytes_eq, false, inl, inr, subst, sym, true, true≢false, ◌∙◌, ◌≢◌}
 use Rattle.std.proofs.lemmas.Slice.Eq.{bytes_eq-Decides}
-use Rattle.std.specs.Prelude.{Bool, IfSome, List, None, Option, Some, [], ℕ, ◌∷◌, ◌≡◌, ◌⊎◌}
-
-pub decide : (b : Bool) → (b ≡ true) ⊎ (b ≡ false)
-decide true = inl refl
-decide false = inr refl
+use Rattle.std.specs.Prelude.{IfSome, List, None, Option, Some, [], ℕ, ◌∷◌, ◌≡◌}
+use Rattle.std.proofs.lemmas.Bool.{cases_Bool}
 
 pub same_bytes : (q name : List ℕ) → bytes_eq q name ≡ true → q ≡ name
 same_bytes q name e = (bytes_eq-Decides q name).0 e
@@ -45,7 +42,7 @@ pub record Keeping (book : List Rule) (P Q : State → Type 0) : Type 0 where
 
 -- what is so of the object of one name, and of the others as before, is so of all
 pub with_one : (P : State → Type 0) (name : List ℕ) (o : State) (old new : Machine) → new.object name ≡ Some o → ((q : List ℕ) → q ≢ name → new.object q ≡ old.object q) → P o → Each P old → Each P new
-with_one P name o old new is others so all q = elim (decide (bytes_eq q name)) [
+with_one P name o old new is others so all q = elim (cases_Bool (bytes_eq q name)) [
   | inl e ↦ subst (λ z. IfSome z P) (sym (ap new.object (same_bytes q name e) ∙ is)) so
   | inr e ↦ subst (λ z. IfSome z P) (sym (others q (other_bytes q name e))) (all q)
 ]

@@ -1,6 +1,6 @@
 -- What each command does keeps what is so of each object: by the definitions of the steps alone.
 use Rattle.pm_client.specs.Meanings.{unsaid}
-use Rattle.pm_machine.proofs.Keeping.{Each, Keeping, at_name, becomes_in_part, becomes_so, decide, each_weaker, other_bytes, same_bytes, same_so, stays_so, with_one}
+use Rattle.pm_machine.proofs.Keeping.{Each, Keeping, at_name, becomes_in_part, becomes_so, each_weaker, other_bytes, same_bytes, same_so, stays_so, with_one}
 use Rattle.pm_machine.proofs.KeepingBuilding.{build_keeps, make_keeps, parts_keep}
 use Rattle.pm_making.specs.Rows.{row_of}
 use Rattle.pm_machine.specs.Building.{wanted_all}
@@ -22,6 +22,7 @@ use Rattle.pm_props.specs.declared.set.PropSet.{PropSet}
 use Rattle.std.proofs.Common.{ap, bytes_eq, false, inl, inr, refl, subst, sym, true, true≢false, ◌∙◌}
 use Rattle.std.specs.Option.{is_some, option_and_then, option_map}
 use Rattle.std.specs.Prelude.{Bool, IfSome, List, None, Option, Some, if◌then◌else◌, ℕ, ◌≡◌}
+use Rattle.std.proofs.lemmas.Bool.{cases_Bool}
 
 some_is : {A : Type 0} {a b : A} → Some a ≡ Some b → a ≡ b
 some_is h = cc
@@ -145,7 +146,7 @@ module _ {book : List Rule} {P Q : State → Type 0} (keeping : Keeping book P Q
 
   drop_keeps : (old new : Machine) (name : List ℕ) (reply : ReplySeen) → DropStep old name reply new → Each P old → Each P new
   drop_keeps old new name _ (is_refused r s) all = stays_so P old new s all
-  drop_keeps old new name _ (is_dropped told h l) all = λ q. elim (decide (bytes_eq q name)) [
+  drop_keeps old new name _ (is_dropped told h l) all = λ q. elim (cases_Bool (bytes_eq q name)) [
     | inl e ↦ subst (λ z. IfSome z P) (sym (ap new.object (same_bytes q name e) ∙ l.object)) tt
     | inr e ↦ subst (λ z. IfSome z P) (sym (l.others q (other_bytes q name e))) (all q)
   ]

@@ -53,21 +53,18 @@ use Rattle.std.specs.Map.{keys_of, lookup, remove_entry}
 use Rattle.std.specs.Option.{IsSome, is_some, option_and_then, option_map}
 use Rattle.std.specs.String.{string_eq}
 use Rattle.std.specs.Prelude.{Bool, String, Err, IfOk, List, None, Ok, OnErr, OnOk, Option, Result, Some, [], cond, drop, length, map, string_bytes, ℕ, ◌++◌, ◌∷◌, ◌≡◌, ◌⊎◌}
+use Rattle.std.proofs.lemmas.Bool.{cases_Bool}
 
 -- what a word names in a type is what it names in the type that was told
 pub named_as : {told of : ObjectType} {found is : Option PropId} (sub : Option ℕ) (word : List ℕ) → told ≡ of → found ≡ property_named told sub word → found ≡ is → property_named of sub word ≡ is
 named_as sub word same named found = ap (λ t. property_named t sub word) (sym same) ∙ sym named ∙ found
-
-decide : (b : Bool) → (b ≡ true) ⊎ (b ≡ false)
-decide true = inl refl
-decide false = inr refl
 
 else_of : {W : Type 0} (b : Bool) (x y : W) → b ≡ false → cond b x y ≡ y
 else_of true x y e = absurd (true≢false e)
 else_of false x y e = refl
 
 apart : (name q : List ℕ) → q ≢ name → bytes_eq name q ≡ false
-apart name q other = elim (decide (bytes_eq name q)) [
+apart name q other = elim (cases_Bool (bytes_eq name q)) [
   | inl e ↦ absurd (other (sym ((bytes_eq-Decides name q).0 e)))
   | inr e ↦ e
 ]
@@ -130,7 +127,7 @@ gains_one m n k o made clients none e updates is = record {
 -- where no key passes, all stay
 none_left : {Y X : Type 0} (name : List ℕ) (es : List (String Y × X)) → lookup (λ k. bytes_eq name (string_bytes k)) es ≡ None → map string_bytes (keys_of es) ≡ without_name name (map string_bytes (keys_of es))
 none_left name [] none = refl
-none_left name (e ∷ es) none = elim (decide (bytes_eq name (string_bytes e.0))) [
+none_left name (e ∷ es) none = elim (cases_Bool (bytes_eq name (string_bytes e.0))) [
   | inl is ↦ absurd (true≢false (ap is_some (rw is at none)))
   | inr is ↦ rw is (ap (λ t. string_bytes e.0 ∷ t) (none_left name es (rw is at none)))
 ]
@@ -139,7 +136,7 @@ none_left name (e ∷ es) none = elim (decide (bytes_eq name (string_bytes e.0))
 names_left : {Y X : Type 0} (name : List ℕ) (es : List (String Y × X)) → lookup (λ k. bytes_eq name (string_bytes k)) (remove_entry (λ k. bytes_eq name (string_bytes k)) es) ≡ None
     → map string_bytes (keys_of (remove_entry (λ k. bytes_eq name (string_bytes k)) es)) ≡ without_name name (map string_bytes (keys_of es))
 names_left name [] none = refl
-names_left name (e ∷ es) none = elim (decide (bytes_eq name (string_bytes e.0))) [
+names_left name (e ∷ es) none = elim (cases_Bool (bytes_eq name (string_bytes e.0))) [
   | inl is ↦ rw is (none_left name es (rw is at none))
   | inr is ↦ rw is (ap (λ t. string_bytes e.0 ∷ t) (names_left name es (rw (is, is) at none)))
 ]
@@ -165,7 +162,7 @@ stays_unchanged m n clients e = record {
 -- what agrees at a name and at the others agrees
 same_all : (old new : List ℕ → Option State) (name : List ℕ) (o o' : State) → old name ≡ Some o → new name ≡ Some o' → o' ≡ o
     → ((q : List ℕ) → q ≢ name → new q ≡ old q) → (q : List ℕ) → new q ≡ old q
-same_all old new name o o' was is same others q = elim (decide (bytes_eq q name)) [
+same_all old new name o o' was is same others q = elim (cases_Bool (bytes_eq q name)) [
   | inl e ↦ (let at : q ≡ name = (bytes_eq-Decides q name).0 e in ap new at ∙ is ∙ ap Some same ∙ sym was ∙ ap old (sym at))
   | inr e ↦ others q (λ f. true≢false (sym ((bytes_eq-Decides q name).1 f) ∙ e))
 ]

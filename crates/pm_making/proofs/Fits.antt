@@ -42,7 +42,7 @@ use Rattle.pm_script.specs.declared.refusal.NotMadeWhy.{NotMadeWhy}
 use Rattle.pm_types.specs.Forms.{is_formed}
 use Rattle.pm_types.specs.Values.{PropertyValue}
 use Rattle.std.proofs.Common.{ap, false, inl, inr, refl, subst, suc, sym, true, true≢false, ◌∙◌, ◌≢◌}
-use Rattle.std.proofs.lemmas.Bool.{and_parts}
+use Rattle.std.proofs.lemmas.Bool.{and_from, and_parts}
 use Rattle.std.proofs.lemmas.Option.{same_Some}
 use Rattle.std.specs.List.{list_all}
 use Rattle.std.specs.Option.{is_some}
@@ -230,9 +230,6 @@ fan_is o h = by o.of h
     by Cone e = absurd (true≢false (sym e))
     by Polytope e = absurd (true≢false (sym e))
 
-both_true : (a b : Bool) → a ≡ true → b ≡ true → (a && b) ≡ true
-both_true a b e f = cc
-
 -- one object of the type, and two
 one_of : (type : ObjectType) (o : State) → list_all (λ o. same_type type o.of) (o ∷ []) ≡ true → same_type type o.of ≡ true
 one_of type o h = (and_parts (same_type type o.of) true h).0
@@ -244,10 +241,10 @@ one_polytope : (o : State) → list_all (λ o. same_type Polytope o.of) (o ∷ [
 one_polytope o h = polytope_is o (one_of Polytope o h)
 
 two_polytopes : (a b : State) → list_all (λ o. same_type Polytope o.of) (a ∷ b ∷ []) ≡ true → (is_polytope a.of && is_polytope b.of) ≡ true
-two_polytopes a b h = let p = two_of Polytope a b h in both_true (is_polytope a.of) (is_polytope b.of) (polytope_is a p.0) (polytope_is b p.1)
+two_polytopes a b h = let p = two_of Polytope a b h in and_from (is_polytope a.of) (is_polytope b.of) (polytope_is a p.0) (polytope_is b p.1)
 
 two_fans : (a b : State) → list_all (λ o. same_type Fan o.of) (a ∷ b ∷ []) ≡ true → (is_fan a.of && is_fan b.of) ≡ true
-two_fans a b h = let p = two_of Fan a b h in both_true (is_fan a.of) (is_fan b.of) (fan_is a p.0) (fan_is b p.1)
+two_fans a b h = let p = two_of Fan a b h in and_from (is_fan a.of) (is_fan b.of) (fan_is a p.0) (fan_is b p.1)
 
 -- a line a row
 pub of_its_type : (what : Builder) → IsOfItsType what

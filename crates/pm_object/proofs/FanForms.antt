@@ -7,8 +7,8 @@ use Rattle.pm_types.specs.Forms.{FormsIn, HasPrimitiveRow, HavePrimitiveRows, ag
 use Rattle.pm_types.specs.Parts.{value_over}
 use Rattle.pm_types.specs.Values.{matrix, whole}
 use Rattle.pm_vector.specs.Numbers.{Ratio}
-use Rattle.std.proofs.Common.{false, refl, true, ◌∙◌}
-use Rattle.std.proofs.lemmas.Bool.{and_from, eq-eqb, le-leb}
+use Rattle.std.proofs.Common.{refl, true, ◌∙◌}
+use Rattle.std.proofs.lemmas.Bool.{and_from, eq-eqb, le-leb, or_right}
 use Rattle.std.proofs.lemmas.List.Elements.{All-nil}
 use Rattle.std.specs.List.{All, list_all}
 use Rattle.std.specs.Prelude.{Bool, List, [], length, nat_eq, nat_le, ℕ, ◌&&◌, ◌||◌, ◌∷◌, ◌≡◌, ◌≤◌}
@@ -34,10 +34,6 @@ agrees_of p h n m rows = absurd h
 pub three : (a b c : Bool) → a ≡ true → b ≡ true → c ≡ true → (a && b && c) ≡ true
 three a b c p q r = rw (p, q, r) refl
 
-second : (a b : Bool) → b ≡ true → (a || b) ≡ true
-second true b p = refl
-second false b p = p
-
 primitive_of : (p : PropId) → IsOfFan p → (m : ℕ) (rows : List (List Ratio)) → All HasPrimitiveRow rows → HavePrimitiveRows p (matrix m rows)
 primitive_of Vertices h m rows all = all
 primitive_of LinealitySpace h m rows all = all
@@ -50,7 +46,7 @@ rows_form n p h (r ∷ rows) some few all cols entries primitive pass = record {
   formed = formed_of p h n (r ∷ rows)
       ∙ three (nat_le (length (r ∷ rows)) most_rows) (is_column_count (r ∷ rows) n) (list_all (is_row_of_entries n) (r ∷ rows))
       (le-leb (length (r ∷ rows)) most_rows all) (and_from (nat_le 1 n) (nat_le n most_columns) (le-leb 1 n some) (le-leb n most_columns few)) cols;
-  columns = agrees_of p h n n (r ∷ rows) ∙ second (nat_eq n 0) (nat_eq n n) (eq-eqb n n refl);
+  columns = agrees_of p h n n (r ∷ rows) ∙ or_right (nat_eq n 0) (nat_eq n n) (eq-eqb n n refl);
   rows = pass;
   entries = entries;
   primitive = primitive_of p h n (r ∷ rows) primitive;

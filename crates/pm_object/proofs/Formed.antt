@@ -14,16 +14,13 @@ use Rattle.pm_types.specs.Values.{PropertyValue, matrix, sets, whole, truth, ext
 use Rattle.pm_props.specs.declared.property.PropId.{PropId}
 use Rattle.pm_props.specs.declared.property.PropId.TheVariants.{ConeAmbientDim, SiteHeights, Sites}
 use Rattle.std.proofs.Common.{ap, arith, false, inl, inr, refl, subst, sym, true, true≢false, ◌∙◌}
-use Rattle.std.proofs.lemmas.Bool.{and_from, and_parts, or_parts}
+use Rattle.std.proofs.lemmas.Bool.{and_from, and_parts, cases_Bool, not-true, or_left, or_parts, or_right}
 use Rattle.std.proofs.lemmas.List.Folds.{list_any-append}
 use Rattle.std.specs.List.{Contains}
 use Rattle.std.specs.Option.{is_some}
-use Rattle.std.specs.Prelude.{Bool, List, map, None, Option, Some, [], if◌then◌else◌, length, nat_eq, nat_lt, not, ℕ, ◌&&◌, ◌++◌, ◌||◌, ◌≡◌, ◌⊎◌, ◌∷◌}
+use Rattle.std.specs.Prelude.{Bool, List, map, None, Option, Some, [], if◌then◌else◌, length, nat_eq, nat_lt, not, ℕ, ◌&&◌, ◌++◌, ◌||◌, ◌≡◌, ◌∷◌}
 use lib.IntN.{pos, negsuc}
-
-decide : (b : Bool) → (b ≡ true) ⊎ (b ≡ false)
-decide true = inl refl
-decide false = inr refl
+use Rattle.std.proofs.Math.Bool.{and-false}
 
 pub ambient_is : (p : PropId) → is_ambient p ≡ same_property ConeAmbientDim p
 ambient_is ConeAmbientDim = refl
@@ -124,14 +121,6 @@ dimension_of (counts ks) e = absurd (true≢false (sym e))
 -- ---- agreeing
 abbrev agrees_at : Bool → ℕ → PropertyValue → ℕ → Bool
 agrees_at a n v k = if a then states n v else nat_eq k 0 || nat_eq k n
-
-or_left : (a b : Bool) → a ≡ true → (a || b) ≡ true
-or_left true b h = refl
-or_left false b h = absurd (true≢false (sym h))
-
-or_right : (a b : Bool) → b ≡ true → (a || b) ≡ true
-or_right true b h = refl
-or_right false b h = h
 
 same_number : (n : ℕ) → nat_eq n n ≡ true
 same_number n = grind arith
@@ -294,17 +283,13 @@ stands_push place p held h e f =
     list_any-append (λ (g : HeldValue). same_property p g.property && same_place g.place place) held (h ∷ [])
     ∙ ap (λ t. t || ((same_property p h.property && same_place h.place place) || false)) e ∙ ap (λ t. t || false) f
 
-pub is_not : (b : Bool) → not b ≡ true → b ≡ false
-is_not true h = sym h
-is_not false h = refl
-
 pub once_push : (held : List HeldValue) (h : HeldValue) → are_once held ≡ true → IsNew h held → are_once (held ++ h ∷ []) ≡ true
 once_push [] h o n = refl
 once_push (x ∷ held) h o n =
     let b = and_parts (not (stands_at x.place x.property held)) (are_once held) o in
     let m = or_parts (same_property h.property x.property && same_place x.place h.place) (stands_at h.place h.property held) n in
     and_from (not (stands_at x.place x.property (held ++ h ∷ []))) (are_once (held ++ h ∷ []))
-    (ap not (stands_push x.place x.property held h (is_not (stands_at x.place x.property held) b.0) (turned h x m.0)))
+    (ap not (stands_push x.place x.property held h (not-true (stands_at x.place x.property held) b.0) (turned h x m.0)))
     (once_push held h b.1 m.1)
 
 -- what is not held where it is read stands nowhere there
@@ -379,10 +364,10 @@ speaks_push held h = ap (has_tag rays_tag) (read_push held h) ∙ list_any-appen
 
 pub backed_push : (k : ℕ) (held : List HeldValue) (h : HeldValue) → is_placed k h.property h.place ≡ true → IsBacked h.property held → (has_tag rays_tag held ≡ true → speaks_of_rays held ≡ true)
     → has_tag rays_tag (held ++ h ∷ []) ≡ true → speaks_of_rays (held ++ h ∷ []) ≡ true
-backed_push k held h placed backed old e = speaks_push held h ∙ elim (decide (has_tag rays_tag held)) [
+backed_push k held h placed backed old e = speaks_push held h ∙ elim (cases_Bool (has_tag rays_tag held)) [
   | inl y ↦ or_left (speaks_of_rays held) (speaks_of_rays (h ∷ [])) (old y)
   | inr n ↦ (let tagged = its_own (rays_tag h.property) (sym (ap (λ t. t || (rays_tag h.property || false)) n) ∙ sym (list_any-append (λ (g : HeldValue). rays_tag g.property) held (h ∷ [])) ∙ e) in
-      elim (decide (has_program h.property)) [
+      elim (cases_Bool (has_program h.property)) [
         | inl y ↦ or_left (speaks_of_rays held) (speaks_of_rays (h ∷ [])) (backed (and_from (has_program h.property) (rays_tag h.property) y tagged))
         | inr m ↦ or_right (speaks_of_rays held) (speaks_of_rays (h ∷ [])) (alone_speaks h (own_place k h.property h.place m placed) tagged)
       ])
@@ -411,15 +396,11 @@ agrees_with_itself : (p : PropId) (v : PropertyValue) → have_as_many_sites p v
 agrees_with_itself ConeAmbientDim v = refl
 agrees_with_itself p v = refl
 
-and_no : (b : Bool) → (b && false) ≡ false
-and_no true = refl
-and_no false = refl
-
 -- a value that is neither of SITES nor of SITE_HEIGHTS agrees with all
 other_agrees : (p : PropId) (v : PropertyValue) (q : PropId) (w : PropertyValue) → same_property Sites p ≡ false → same_property SiteHeights p ≡ false → agree_in_sites p v q w ≡ true
 other_agrees p v q w a b =
     and_from (have_as_many_sites p v q w) (have_as_many_sites q w p v) (ap (λ t. if t && same_property SiteHeights q then nat_eq (length (rows_in v)) (cols_in w) else true) a)
-    (ap (λ t. if same_property Sites q && t then nat_eq (length (rows_in w)) (cols_in v) else true) b ∙ ap (λ t. if t then nat_eq (length (rows_in w)) (cols_in v) else true) (and_no (same_property Sites q)))
+    (ap (λ t. if same_property Sites q && t then nat_eq (length (rows_in w)) (cols_in v) else true) b ∙ ap (λ t. if t then nat_eq (length (rows_in w)) (cols_in v) else true) (and-false (same_property Sites q)))
 
 pub others_agree : (p : PropId) (v : PropertyValue) (held : List HeldValue) → same_property Sites p ≡ false → same_property SiteHeights p ≡ false → sites_agree held p v ≡ true
 others_agree p v [] a b = refl

@@ -1,5 +1,4 @@
 -- An object with one linear program more.
-use Rattle.pm_vector.proofs.Lists.{Contains_among}
 use Rattle.pm_object.specs.Formed.{ArePrograms, IsFormed, IsFormedIn, are_different, is_placed}
 use Rattle.pm_object.specs.State.{HeldValue, State, cols_of, is_polytope, place_from, program_refusal, with_program}
 use Rattle.pm_props.specs.NameWords.{is_name}
@@ -7,12 +6,12 @@ use Rattle.pm_props.specs.Properties.{has_program}
 use Rattle.pm_object_type.specs.declared.object_type.ObjectType.{ObjectType}
 use Rattle.pm_props.specs.declared.property.PropId.{PropId}
 use Rattle.std.proofs.Common.{ap, arith, false, refl, subst, sym, true, true≢false, ◌∙◌}
-use Rattle.std.proofs.lemmas.Bool.{and_from, and_parts}
+use Rattle.std.proofs.lemmas.Bool.{and_from, and_parts, not-false}
 use Rattle.std.proofs.lemmas.List.{length-append}
 use Rattle.std.proofs.lemmas.List.Folds.{list_all-append, list_any-append}
-use Rattle.std.specs.List.{Contains, list_all, list_any}
+use Rattle.std.specs.List.{list_any}
 use Rattle.std.specs.Option.{is_some}
-use Rattle.std.specs.Prelude.{Bool, List, None, Option, Some, String, [], if◌then◌else◌, length, map, nat_le, nat_lt, not, string_bytes, suc, ℕ, ◌&&◌, ◌+◌, ◌++◌, ◌||◌, ◌≡◌, ◌∷◌}
+use Rattle.std.specs.Prelude.{Bool, List, None, Option, Some, [], if◌then◌else◌, length, map, nat_le, nat_lt, not, suc, ℕ, ◌&&◌, ◌+◌, ◌++◌, ◌||◌, ◌≡◌, ◌∷◌}
 use Rattle.std.specs.Str.{bytes_eq}
 use Rattle.pm_limits.specs.Limits.{most_programs}
 
@@ -57,10 +56,6 @@ pub not_refused : {E : Type 0} (b : Bool) (e : E) (r : Option E) → (if b then 
 not_refused true e r h = absurd (true≢false (ap is_some h))
 not_refused false e r h = (refl, h)
 
-is_not_not : (b : Bool) → not b ≡ false → b ≡ true
-is_not_not true h = refl
-is_not_not false h = absurd (true≢false h)
-
 none : {X : Type 0} (v : Option X) → is_some v ≡ false → v ≡ None
 none None h = refl
 none (Some x) h = absurd (true≢false h)
@@ -77,7 +72,7 @@ programs_push o name are word e =
       few = ap (λ n. nat_le n 4) (one_more o.programs name) ∙ few_more (length o.programs) few;
       words = list_all-append is_name o.programs (name ∷ []) ∙ ap (λ t. t && (is_name name && true)) are.words ∙ ap (λ t. t && true) word;
       different = different_push 0 o.programs name are.different (none (place_from 0 name o.programs) free);
-      polytope = λ h. is_not_not (is_polytope o.of) polytope;
+      polytope = λ h. not-false (is_polytope o.of) polytope;
     }
 
 pub formed_program : (o : State) (name : List ℕ) → IsFormed o → is_name name ≡ true → program_refusal o name ≡ None → IsFormed (with_program o name)

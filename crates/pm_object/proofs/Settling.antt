@@ -1,7 +1,7 @@
 -- What goes without saying leaves all values of an object in their forms.
 use Rattle.pm_vector.proofs.Lists.{Contains_among, all_append, here, there}
-use Rattle.pm_object.proofs.Formed.{backed_own, own_place, Each, formed_push, held_dimension, held_stays, is_not, new_unheld, others_agree, value_among, value_later, value_stays}
-use Rattle.pm_object.specs.Formed.{IsFormedIn, IsFormed, is_placed, stands_at}
+use Rattle.pm_object.proofs.Formed.{backed_own, own_place, Each, formed_push, held_dimension, held_stays, new_unheld, others_agree, value_among, value_later, value_stays}
+use Rattle.pm_object.specs.Formed.{IsFormedIn, IsFormed, stands_at}
 use Rattle.pm_object.specs.declared.held.Held.{Held as HeldOf}
 use Rattle.pm_vector.specs.Numbers.{Ratio}
 use Rattle.pm_object.specs.State.{HeldValue, State, agrees, ambient_in, cols_of, first_cols, is_held, has_rounds, names_to_settle, only_if, or_else, settled, settling, sites_agree, value_of, with_held}
@@ -15,12 +15,12 @@ use Rattle.pm_props.specs.declared.property.PropId.TheVariants.{ConeAmbientDim, 
 use Rattle.pm_object_type.specs.declared.object_type.ObjectType.{ObjectType}
 use Rattle.pm_object_type.specs.declared.object_type.ObjectType.TheVariants.{Polytope, Cone, Fan}
 use Rattle.std.proofs.Common.{ap, append-nil, append_assoc, arith, false, refl, subst, sym, true, true≢false, ◌∙◌}
-use Rattle.std.proofs.lemmas.Bool.{leb-true}
+use Rattle.std.proofs.lemmas.Bool.{leb-true, not-true}
 use Rattle.std.proofs.lemmas.List.Elements.{All-nil}
 use Rattle.std.proofs.lemmas.List.Folds.{list_any-append}
 use Rattle.std.specs.List.{All, AllByRecursion, list_all}
 use Rattle.std.specs.Option.{is_some, unwrap_or}
-use Rattle.std.specs.Prelude.{Bool, IfSome, List, None, Option, Some, [], if◌then◌else◌, length, map, nat_eq, nat_le, nat_lt, not, ℕ, ◌&&◌, ◌||◌, ◌++◌, ◌^◌, ◌<◌, ◌≡◌, ◌∷◌}
+use Rattle.std.specs.Prelude.{Bool, IfSome, List, None, Option, Some, [], if◌then◌else◌, length, map, nat_eq, nat_le, not, ℕ, ◌&&◌, ◌||◌, ◌++◌, ◌^◌, ◌<◌, ◌≡◌, ◌∷◌}
 use lib.IntN.{pos}
 use Rattle.pm_limits.specs.Limits.{most_columns, most_rows, most_site_columns}
 
@@ -227,7 +227,7 @@ in_table o p f own e = by (value_of p o.held) refl e
         subst (λ q. has o.of q ≡ true) same (fits.table place)
 
 unheld : (p : PropId) (held : List HeldValue) → not (is_held p held) ≡ true → stands_at None p held ≡ false
-unheld p held e = new_unheld None p held (is_not (is_held p held) e)
+unheld p held e = new_unheld None p held (not-true (is_held p held) e)
 
 -- the first and the last of five conditions
 first_of_five : (a b c d e : Bool) → (a && b && c && d && e) ≡ true → a ≡ true

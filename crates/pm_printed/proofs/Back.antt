@@ -1,18 +1,17 @@
 -- What printed parts are read as.
-use Rattle.std.proofs.Common.{◌≡◌, ◌≢◌, ℕ, zero, suc, ◌+◌, ◌-◌, ◌*◌, ◌/◌, ◌%◌, ◌<◌, ◌≤◌, ◌^◌, Bool, true, Some, None, Ok, Err, List, [], ◌∷◌, ◌++◌, length, get_or, take, drop, replicate, eqb, leb, cond, refl, sym, ap, ap₂, ◌∙◌, subst, arith, inl, inr, Bor, length-append, filter, fold, false, ltb, IsTrue}
-use Rattle.std.proofs.lemmas.List.{get_or-take, length-take}
+use Rattle.std.proofs.Common.{◌≡◌, ◌≢◌, ℕ, ◌+◌, ◌-◌, ◌/◌, ◌%◌, ◌<◌, ◌^◌, Bool, true, Some, None, Ok, Err, List, [], ◌∷◌, ◌++◌, length, get_or, replicate, eqb, leb, refl, sym, ap, ◌∙◌, subst, arith, inl, inr, Bor, length-append, filter, fold, false}
 use Rattle.std.specs.Prelude.{OkIff}
-use Rattle.std.specs.Prelude.{Option, Result, MatchOption, codes, slice_index}
+use Rattle.std.specs.Prelude.{Option, Result}
 use Rattle.std.specs.Result.{result_ok}
 use Rattle.std.specs.Option.{option_map}
 use Rattle.std.specs.Fmt.{decimal, digits}
-use Rattle.std.specs.Str.Parse.{AllDigits, IsNumeral, ParsesUnsigned, digits_value, without_leading_plus}
+use Rattle.std.specs.Str.Parse.{AllDigits, ParsesUnsigned, digits_value, without_leading_plus}
 use Rattle.std.proofs.lemmas.Bool.{cases_Bool, eqb-true, false_from_ne_true, lt-ltb}
 use Rattle.std.proofs.lemmas.List.Quantifiers.{position-Some}
 use Rattle.std.proofs.lemmas.List.Sums.{position_or_len_is}
 use Rattle.std.proofs.lemmas.Slice.Eq.{bytes_eq-Decides}
-use Rattle.std.proofs.lemmas.Option.{slice_get-get_or}
-use Rattle.std.specs.Prelude.{IfSome, position, slice_get}
+use Rattle.std.proofs.lemmas.Option.{same_Some, slice_get-get_or}
+use Rattle.std.specs.Prelude.{position}
 use Rattle.std.specs.List.{list_all, position_or_len}
 use Rattle.std.specs.Str.{bytes_eq}
 use Rattle.std.proofs.lemmas.Fmt.{parse-decimal, digits_is_IsNumeral}
@@ -111,13 +110,10 @@ solid w h = lacks_what_fails (λ b. leb 33 b) 32 w refl h
 abbrev has_label : List ℕ → Rule → Bool
 has_label label rule = bytes_eq rule.label label
 
-pub some_same : {X : Type 0} (x y : X) → Some x ≡ Some y → x ≡ y
-some_same x y e = cc
-
 -- the rule of a label is found: no rule before it has that label
 pub labelled_back : (book : List Rule) → IsBook book → (id : RuleId) (rule : Rule) → IsOfBook book id → rule_at book id ≡ Some rule → (label : List ℕ) → label ≡ rule.label → labelled book label ≡ Some id
 labelled_back book is id rule of at label e =
-    let there : (d : Rule) → get_or book id.0 d ≡ rule = λ d. some_same (get_or book id.0 d) rule (sym (slice_get-get_or book id.0 d of) ∙ at) in
+    let there : (d : Rule) → get_or book id.0 d ≡ rule = λ d. same_Some (get_or book id.0 d) rule (sym (slice_get-get_or book id.0 d of) ∙ at) in
     let here : has_label label (get_or book id.0 rule) ≡ true = (bytes_eq-Decides (get_or book id.0 rule).label label).1 (ap (λ (r : Rule). r.label) (there rule) ∙ sym e) in
     let before : (k : ℕ) → k < id.0 → has_label label (get_or book k rule) ≡ false = λ k less. false_from_ne_true (has_label label (get_or book k rule)) (λ t.
     is.labels k id.0 rule less of ((bytes_eq-Decides (get_or book k rule).label label).0 t ∙ e ∙ sym (ap (λ (r : Rule). r.label) (there rule)))) in
@@ -132,7 +128,7 @@ place_within p (x ∷ xs) i h = (position-Some p (x ∷ xs) i x h).0
 fits_from : (book : List Rule) (label : List ℕ) (id : RuleId) (o : Option ℕ) → position (has_label label) book ≡ o → option_map rule_number o ≡ Some id → id.0 < length book
 fits_from book label id None p h = cc
 fits_from book label id (Some i) p h =
-    let same : i ≡ id.0 = ap (λ (r : RuleId). r.0) (some_same (rule_number i) id h) in
+    let same : i ≡ id.0 = ap (λ (r : RuleId). r.0) (same_Some (rule_number i) id h) in
     let below : i < length book = place_within (has_label label) book i p in
     omega arith
 

@@ -1,8 +1,7 @@
 -- What stands and what falls of a plan, and what it proves.
-use Rattle.std.proofs.Common.{◌≡◌, ℕ, ◌+◌, ◌<◌, ◌≤◌, Some, List, length, get_or, sym, ap, ◌∙◌, subst, arith, Contains}
-use Rattle.std.specs.Prelude.{Err, IfOk, Ok, Result, slice_get, take}
-use Rattle.std.proofs.lemmas.Option.{slice_get_within, slice_get-get_or}
-use Rattle.pm_props.specs.declared.set.PropSet.{PropSet}
+use Rattle.std.proofs.Common.{◌≡◌, ℕ, ◌+◌, ◌≤◌, Some, List, length, get_or, sym, ◌∙◌, subst, arith, Contains}
+use Rattle.std.specs.Prelude.{Err, IfOk, Ok, Result, slice_get}
+use Rattle.std.proofs.lemmas.Option.{same_Some, slice_get-get_or, slice_get_within}
 use Rattle.pm_props.specs.declared.kind.RuleId.{RuleId}
 use Rattle.pm_weights.specs.declared.Cost.{Cost}
 use Rattle.pm_rules.specs.declared.rule.Rule.{Rule}
@@ -19,17 +18,14 @@ use Rattle.pm_printed.specs.declared.judge.Verdict.{Verdict}
 use Rattle.pm_printed.specs.declared.question.Question.{Question}
 use Rattle.pm_printed.specs.Judging.Judges.{of_refusal}
 use Rattle.pm_printed.specs.Printed.{IsRefusalText}
-use Rattle.pm_printed.specs.Judging.{FallsAt, HeadStands, Judges, JudgesRefusal, ProvedPlansAreLeast, ProvedRefusalsExclude, ProvesNone, ProvesPlan, StopsAt, all_barred}
-
-some_same : {X : Type 0} (x y : X) → Some x ≡ Some y → x ≡ y
-some_same x y e = cc
+use Rattle.pm_printed.specs.Judging.{FallsAt, HeadStands, Judges, JudgesRefusal, ProvedPlansAreLeast, ProvedRefusalsExclude, ProvesPlan, StopsAt, all_barred}
 
 -- in a certificate each row stands
 pub stands_from_certificate : (book : List Rule) (q : Question) (barred : List RuleId) (claim : Claim) (rows : List TableRow) (k : ℕ) (row : TableRow) → slice_get rows k ≡ Some row
     → IsCertificate book q.names barred q.held q.asked claim rows → StandsIn book q.names barred q.asked rows claim row
 stands_from_certificate book q barred claim rows k row e h =
     let within = slice_get_within rows k row e in
-    let at : get_or rows k row ≡ row = some_same (get_or rows k row) row (sym (slice_get-get_or rows k row within) ∙ e) in
+    let at : get_or rows k row ≡ row = same_Some (get_or rows k row) row (sym (slice_get-get_or rows k row within) ∙ e) in
     subst (λ (r : TableRow). StandsIn book q.names barred q.asked rows claim r) at (record { onward = h.steps k row within; ends = h.ends k row within })
 
 -- a row that falls is in no certificate

@@ -15,14 +15,11 @@ use Rattle.pm_props.specs.Sets.{has, members}
 use Rattle.pm_types.specs.Values.{Fact, PropertyValue}
 use Rattle.pm_props.specs.declared.property.PropId.{PropId}
 use Rattle.pm_object.specs.declared.held.Origin.TheVariants.{Computed}
-use Rattle.std.proofs.Common.{ap, append-nil, arith, drop, false, get_or, inl, inr, refl, subst, sym, true, true≢false, ◌∙◌}
+use Rattle.std.proofs.Common.{ap, append-nil, arith, drop, false, get_or, refl, subst, sym, true, true≢false, ◌∙◌}
 use Rattle.std.proofs.lemmas.List.Folds.{list_any-append}
 use Rattle.std.specs.Option.{is_some}
-use Rattle.std.specs.Prelude.{Bool, Err, IfSome, List, None, Ok, OnOk, Option, Result, Some, [], if◌then◌else◌, filter, length, nat_eq, nat_le, not, suc, zero, ℕ, ◌&&◌, ◌+◌, ◌++◌, ◌<◌, ◌≤◌, ◌∷◌, ◌||◌, ◌≡◌, ◌⊎◌}
-
-decide : (b : Bool) → (b ≡ true) ⊎ (b ≡ false)
-decide true = inl refl
-decide false = inr refl
+use Rattle.std.specs.Prelude.{Bool, Err, IfSome, List, None, Ok, OnOk, Option, Result, Some, [], if◌then◌else◌, filter, length, nat_eq, nat_le, not, suc, zero, ℕ, ◌&&◌, ◌+◌, ◌++◌, ◌<◌, ◌≤◌, ◌∷◌, ◌||◌, ◌≡◌}
+use Rattle.std.proofs.lemmas.Bool.{and_from}
 
 -- what follows from what holds on success
 pub on_ok_of : {T E P Q : Type 0} (r : Result T E) → (P → Q) → OnOk r P → OnOk r Q
@@ -38,15 +35,12 @@ pub both : (a b : Bool) → (a && b) ≡ true → (a ≡ true) × (b ≡ true)
 both true b h = (refl, h)
 both false b h = absurd (true≢false (sym h))
 
-and_true : (a b : Bool) → a ≡ true → b ≡ true → (a && b) ≡ true
-and_true a b h k = cc
-
 le_from : (m n k : ℕ) → n ≤ m → nat_le m k ≡ true → nat_le n k ≡ true
 le_from m n k h e = grind arith
 
 pub weaker : (m n : ℕ) (ps : List PropId) → n ≤ m → ascends m ps ≡ true → ascends n ps ≡ true
 weaker m n [] h e = refl
-weaker m n (p ∷ ps) h e = let (a, b) = both (nat_le m (number p)) (ascends (suc (number p)) ps) e in and_true _ _ (le_from m n (number p) h a) b
+weaker m n (p ∷ ps) h e = let (a, b) = both (nat_le m (number p)) (ascends (suc (number p)) ps) e in and_from _ _ (le_from m n (number p) h a) b
 
 le_suc : (n k : ℕ) → nat_le n k ≡ true → n ≤ suc k
 le_suc n k h = grind arith
@@ -58,7 +52,7 @@ filtered f n (p ∷ ps) e =
     by (f p) a (filtered f (suc (number p)) ps b)
   where
     by : (t : Bool) → nat_le n (number p) ≡ true → ascends (suc (number p)) (filter f ps) ≡ true → ascends n (if t then p ∷ filter f ps else filter f ps) ≡ true
-    by true a rest = and_true _ _ a rest
+    by true a rest = and_from _ _ a rest
     by false a rest = weaker (suc (number p)) n (filter f ps) (le_suc n (number p) a) rest
 
 pub members_ascend : (s : ℕ) → ascends 0 (members s) ≡ true

@@ -23,29 +23,17 @@ use Rattle.std.specs.Prelude.{Bool, List, None, Option, [], if◌then◌else◌,
 use Rattle.pm_vector.specs.Numbers.{Ratio}
 use Rattle.std.proofs.lemmas.Int.{ints}
 use lib.IntN.{pos}
+use Rattle.std.proofs.lemmas.Bool.{and_from, cases_Bool, not-true}
 
 -- ---- tests
-decide : (b : Bool) → (b ≡ true) ⊎ (b ≡ false)
-decide true = inl refl
-decide false = inr refl
-
 both_true : (a b : Bool) → (a && b) ≡ true → (a ≡ true) × (b ≡ true)
 both_true true true h = (refl, refl)
 both_true true false h = absurd (true≢false (sym h))
 both_true false b h = absurd (true≢false (sym h))
 
-and_true : (a b : Bool) → a ≡ true → b ≡ true → (a && b) ≡ true
-and_true true true h k = refl
-and_true true false h k = k
-and_true false b h k = h
-
-not_true : (b : Bool) → not b ≡ true → b ≡ false
-not_true true h = absurd (true≢false (sym h))
-not_true false h = refl
-
 -- ---- what is named, shown and missing
 pub named_from : (sub : Option ℕ) (held : List Fact) (f : Fact) → Among f held → f.place ≡ place_of sub f.property → is_named held sub f.property ≡ true
-named_from sub held f i e = any_from (stands_at sub f.property) i (and_true (same_property f.property f.property) (same_place f.place (place_of sub f.property)) (same_property_refl f.property) (subst (λ r. same_place f.place r ≡ true) e (same_place_refl f.place)))
+named_from sub held f i e = any_from (stands_at sub f.property) i (and_from (same_property f.property f.property) (same_place f.place (place_of sub f.property)) (same_property_refl f.property) (subst (λ r. same_place f.place r ≡ true) e (same_place_refl f.place)))
 
 pub named_to : (sub : Option ℕ) (held : List Fact) (p : PropId) → is_named held sub p ≡ true → (f : Fact) × Among f held × (f.property ≡ p) × (f.place ≡ place_of sub p)
 named_to sub held p h =
@@ -59,28 +47,28 @@ shown_among kind sub held i = (filter_among (λ f. has kind.sources f.property &
 pub among_shown : (kind : Kind) (sub : Option ℕ) (held : List Fact) {f : Fact} → Among f held → has kind.sources f.property ≡ true → f.place ≡ place_of sub f.property → Among f (shown kind sub held)
 among_shown kind sub held {f} i h e =
     among_filter (λ g. has kind.sources g.property && same_place g.place (place_of sub g.property)) i
-    (and_true (has kind.sources f.property) (same_place f.place (place_of sub f.property)) h (subst (λ r. same_place f.place r ≡ true) e (same_place_refl f.place)))
+    (and_from (has kind.sources f.property) (same_place f.place (place_of sub f.property)) h (subst (λ r. same_place f.place r ≡ true) e (same_place_refl f.place)))
 
 missing_to : (sub : Option ℕ) (held answer : List Fact) {f : Fact} → Among f (missing sub held answer) → Among f answer × (is_named held sub f.property ≡ false)
-missing_to sub held answer {f} i = let w = filter_among (λ g. not (is_named held sub g.property)) answer i in (w.0, not_true (is_named held sub f.property) w.1)
+missing_to sub held answer {f} i = let w = filter_among (λ g. not (is_named held sub g.property)) answer i in (w.0, not-true (is_named held sub f.property) w.1)
 
 -- ---- fresh tags
 -- a kind with a target that has the tag is fresh in it, or some source has it
 decide_fresh : (tag : PropId → Bool) (kind : Kind) (p : PropId) → has kind.targets p ≡ true → tag p ≡ true → IsFresh tag kind ⊎ ((s : PropId) × (has kind.sources s ≡ true) × (tag s ≡ true))
-decide_fresh tag kind p h e = elim (decide (list_any (λ q. has kind.sources q && tag q) every_property)) [
+decide_fresh tag kind p h e = elim (cases_Bool (list_any (λ q. has kind.sources q && tag q) every_property)) [
   | inl y ↦ inr (let w = any_to (λ q. has kind.sources q && tag q) every_property y in let b = both_true (has kind.sources w.0) (tag w.0) w.2 in (w.0, b.0, b.1))
   | inr n ↦ inl (record {
     target = (p, h, e);
-    sources = λ q hq. elim (decide (tag q)) [
+    sources = λ q hq. elim (cases_Bool (tag q)) [
       | inr f ↦ f
-      | inl y ↦ absurd (true≢false (sym (any_from (λ r. has kind.sources r && tag r) (among_every q) (and_true (has kind.sources q) (tag q) hq y)) ∙ n))
+      | inl y ↦ absurd (true≢false (sym (any_from (λ r. has kind.sources r && tag r) (among_every q) (and_from (has kind.sources q) (tag q) hq y)) ∙ n))
     ];
   })
 ]
 
 -- a held fact has not the tag, or the kind is not fresh in it
 not_tagged : (tag : PropId → Bool) (kind : Kind) (held : List Fact) {f : Fact} {A : Type 0} (new old : A) → IsFree tag kind held → (¬ (IsFresh tag kind) → new ≡ old) → Among f held → (tag f.property ≡ false) ⊎ (new ≡ old)
-not_tagged tag kind held {f} new old free same i = elim (decide (tag f.property)) [
+not_tagged tag kind held {f} new old free same i = elim (cases_Bool (tag f.property)) [
   | inr n ↦ inl n
   | inl y ↦ inr (same (λ fresh. true≢false (sym y ∙ free.none fresh f (Contains_among i))))
 ]

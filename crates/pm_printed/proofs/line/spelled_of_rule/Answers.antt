@@ -1,9 +1,9 @@
-use Rattle.std.proofs.Common.{◌≡◌, ◌∙◌, None, Some, ap, refl, sym}
+use Rattle.std.proofs.Common.{◌∙◌, Some, ap, refl}
 use Rattle.std.specs.Prelude.{codes}
 use Rattle.pm_rules.specs.Rules.{rule_at}
-use Rattle.pm_printed.specs.Texts.{label_in, weight_in}
-use Rattle.pm_printed.proofs.Back.{labelled_back, some_same, solid}
-use Rattle.pm_printed.proofs.Unread.{barred_parts, label_lacks_space, rule_parts, rule_there}
+use Rattle.pm_printed.specs.Texts.{weight_in}
+use Rattle.pm_printed.proofs.Back.{solid}
+use Rattle.pm_printed.proofs.Unread.{rule_parts}
 use Rattle.pm_props.specs.declared.kind.RuleId.{RuleId}
 use Rattle.pm_printed.proofs.line.spelled_of_rule.Goals as goal
 

@@ -1,10 +1,10 @@
-use Rattle.std.proofs.Common.{◌≡◌, ◌∙◌, None, Some, ap, refl, sym}
-use Rattle.std.specs.Prelude.{codes}
+use Rattle.std.proofs.Common.{◌≡◌, ◌∙◌, None, Some, ap, sym}
 use Rattle.pm_rules.specs.Rules.{rule_at}
-use Rattle.pm_printed.specs.Texts.{label_in, weight_in}
-use Rattle.pm_printed.proofs.Back.{labelled_back, some_same, solid}
-use Rattle.pm_printed.proofs.Unread.{barred_parts, label_lacks_space, rule_parts, rule_there}
+use Rattle.pm_printed.specs.Texts.{label_in}
+use Rattle.pm_printed.proofs.Back.{labelled_back}
+use Rattle.pm_printed.proofs.Unread.{label_lacks_space, rule_there}
 use Rattle.pm_printed.proofs.line.spelled_rule.Goals as goal
+use Rattle.std.proofs.lemmas.Option.{same_Some}
 
 pub returns-in-Some-rule_labelled-clause-back : goal.returns-in-Some-rule_labelled-clause-back
 returns-in-Some-rule_labelled-clause-back c = λ word rest id lacks of e.
@@ -13,7 +13,7 @@ returns-in-Some-rule_labelled-clause-back c = λ word rest id lacks of e.
     let parts = rw c.in-Some.is at cut in
     let there = rule_there rules c.requires id of in
     let found : c.rule_labelled.result ≡ Some id = c.rule_labelled.ensures ∙ labelled_back rules c.requires id there.0 of there.1 c.in-Some.label.now (parts.0 ∙ ap label_in there.1) in
-    (some_same c.in-Some-rule_labelled.id id (sym c.in-Some-rule_labelled.is ∙ found), parts.1)
+    (same_Some c.in-Some-rule_labelled.id id (sym c.in-Some-rule_labelled.is ∙ found), parts.1)
 
 pub returns-in-None-rule_labelled-clause-back : goal.returns-in-None-rule_labelled-clause-back
 returns-in-None-rule_labelled-clause-back c = λ word rest id lacks of e.
