@@ -19,7 +19,7 @@ use Rattle.pm_props.specs.declared.kind.Kind.{Kind}
 use Rattle.pm_props.specs.declared.property.PropId.TheVariants.{AffineHull, ConeAmbientDim, Equations, Facets, Inequalities, InputLineality, LinealitySpace, Points, SiteHeights, Vertices}
 use Rattle.pm_props.specs.declared.property.PropId.{PropId}
 use Rattle.std.proofs.Common.{false, refl, subst, sym, to_z, true, true≢false, w64}
-use Rattle.std.proofs.lemmas.Bool.{and_parts}
+use Rattle.std.proofs.lemmas.Bool.{and_from, and_parts}
 use Rattle.std.proofs.lemmas.Int.{to_z_pos}
 use Rattle.std.proofs.lemmas.List.Elements.{All-nil}
 use Rattle.std.specs.List.{All}
@@ -97,14 +97,9 @@ sound_plain v p x old new plain other formed put follows =
 abbrev pub is_of_64_bits : PropId → Bool
 is_of_64_bits p = is_of_whole_numbers (value_kind p) && not (is_ambient p)
 
-both : (a b : Bool) → a ≡ true → b ≡ true → (a && b) ≡ true
-both true true h k = refl
-both true false h k = k
-both false b h k = h
-
 whole_formed : (p : PropId) (z : ℤ) → is_of_64_bits p ≡ true → has_64_bits z ≡ true → is_formed p (whole z) ≡ true
 whole_formed ConeAmbientDim z h bits = absurd (true≢false (sym h))
-whole_formed p z h bits = both (is_of_whole_numbers (value_kind p)) (has_64_bits z) (and_parts (is_of_whole_numbers (value_kind p)) (not (is_ambient p)) h).0 bits
+whole_formed p z h bits = and_from (is_of_whole_numbers (value_kind p)) (has_64_bits z) (and_parts (is_of_whole_numbers (value_kind p)) (not (is_ambient p)) h).0 bits
 
 not_ambient : (p : PropId) → is_of_64_bits p ≡ true → is_ambient p ≡ false
 not_ambient ConeAmbientDim h = absurd (true≢false (sym h))
@@ -136,4 +131,4 @@ counts_not_ambient p h = refl
 
 -- a list of whole numbers of 64 bits
 pub sound_counts : (v : ViewSeen) (p : PropId) (ks : List ℤ) (old new : DraftSeen) → is_of_counts (value_kind p) ≡ true → is_counts_form ks ≡ true → IsPut v p (counts ks) old new → Follows v p (counts ks) → IsSound v new
-sound_counts v p ks old new kind form put follows = sound_plain v p (counts ks) old new refl (counts_not_ambient p kind) (both (is_of_counts (value_kind p)) (is_counts_form ks) kind form) put follows
+sound_counts v p ks old new kind form put follows = sound_plain v p (counts ks) old new refl (counts_not_ambient p kind) (and_from (is_of_counts (value_kind p)) (is_counts_form ks) kind form) put follows

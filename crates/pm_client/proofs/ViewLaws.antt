@@ -14,7 +14,7 @@ use Rattle.pm_types.specs.Values.{Fact}
 use Rattle.pm_props.specs.declared.kind.Kind.{Kind}
 use Rattle.pm_props.specs.declared.property.PropId.{PropId}
 use Rattle.std.proofs.Common.{ap, arith, eqb, false, refl, sym, true, true≢false, ◌∙◌}
-use Rattle.std.proofs.lemmas.Bool.{leb-true}
+use Rattle.std.proofs.lemmas.Bool.{leb-true, or_right}
 use Rattle.std.specs.List.{Contains, list_any}
 use Rattle.std.specs.Option.{is_some}
 use Rattle.std.specs.Prelude.{Bool, List, None, Some, if◌then◌else◌, ℕ, ◌&&◌, ◌<◌, ◌^◌, ◌||◌, ◌≡◌}
@@ -26,10 +26,6 @@ has_listed s ps p e = ap (λ z. has z p) e ∙ has-set_of ps p
 
 pub few_columns : (v : ViewSeen) → IsView v → v.cols < 2 ^ 63
 few_columns v view = let l = leb-true v.cols most_columns view.few_cols in omega arith
-
-or_right : (a b : Bool) → b ≡ true → (a || b) ≡ true
-or_right true b h = refl
-or_right false b h = h
 
 pub target_named : (kind : Kind) (p : PropId) → has kind.targets p ≡ true → has (names_of kind) p ≡ true
 target_named kind p h = has-union kind.targets (union kind.sources (conditions_of kind)) p ∙ ap (λ b. b || has (union kind.sources (conditions_of kind)) p) h

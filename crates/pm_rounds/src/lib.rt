@@ -10,8 +10,8 @@ mod why;
 
 pub use chain::{are_same, barred_rules, table};
 pub use laws::{
-    example_conditions, example_events, example_exclusions, example_reasons, example_standing,
-    law_barred_have_reasons, law_events_keep, law_events_keep_evidence,
+    example_conditions, example_events, example_exclusions, example_meanings, example_reasons,
+    example_standing, law_barred_have_reasons, law_events_keep, law_events_keep_evidence,
 };
 pub use round::{Ending, ensure};
 pub use why::reasons;
