@@ -6,7 +6,8 @@ use Rattle.pm_client.specs.declared.ClientFail.{ClientFail}
 use Rattle.pm_object.specs.Reading.{DraftSeen, ViewSeen}
 use Rattle.pm_props.specs.declared.kind.Kind.{Kind}
 use Rattle.std.proofs.Common.{ap, arith, inl, inr, refl, slice_index_or, sym, take, zero, suc, length, ◌+◌, ◌<◌, ◌++◌, ◌∙◌, ◌≡◌}
-use Rattle.std.specs.Prelude.{List, [], map, true, ℕ, ◌∷◌, ◌⊎◌}
+use Rattle.std.proofs.lemmas.List.{take_all}
+use Rattle.std.specs.Prelude.{List, [], map, true, ℕ, ◌∷◌, ◌≤◌, ◌⊎◌}
 use Rattle.std.specs.declared.dyn_box.DynBox.{DynBox}
 
 -- there is one table of members alone: each box has a value of its type
@@ -70,3 +71,9 @@ pub as_many : {A B : Type 0} (f : A → B) (xs : List A) (ys : List B) → map f
 as_many f [] ys is = ap length is
 as_many f (x ∷ xs) [] is = absurd (cc is)
 as_many f (x ∷ xs) (y ∷ ys) is = ap suc (as_many f xs ys (cc is))
+
+-- all were put behind one another: what t tells of them, s does, and s tells u of what each f is
+pub all_pushed : {A B C D : Type 0} (u : D → B) (f : A → D) (xs : List A) (i : ℕ) (all : List D) → length xs ≤ i → map f xs ≡ all → (t s : C → B) → ((c : C) → t c ≡ s c) → (cs : List C)
+    → map s cs ≡ map (λ x. u (f x)) (take i xs) → map t cs ≡ map u all
+all_pushed u f xs i all over is t s same cs has =
+    map_as t s same cs ∙ has ∙ ap (map (λ x. u (f x))) (take_all i xs over) ∙ map_twice u f xs ∙ ap (map u) is

@@ -9,3 +9,4 @@ pub mod Worked
 pub mod DemoTexts
 pub mod Widening
 pub mod Boxing
+pub mod ShippedExamples

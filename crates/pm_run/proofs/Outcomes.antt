@@ -142,3 +142,7 @@ not_run M (Some said) w h = inl h
 -- the words that were read are those that were given
 pub bad_for : (given : Option WordsSeen) (said : WordsSeen) (clients : Clients) (files : Option Files) (old new : ℕ) → given ≡ Some said → IsBadBook (Some said) clients files old new → IsBadBook given clients files old new
 bad_for given said clients files old new is h = subst (λ z. IsBadBook z clients files old new) (sym is) h
+
+-- a book is refused by these clients as by those that are the same
+pub bad_with : (said : Option WordsSeen) (before clients : Clients) (files : Option Files) (old new : ℕ) → before ≡ clients → IsBadBook said before files old new → IsBadBook said clients files old new
+bad_with said before clients files old new are h = subst (λ z. IsBadBook said z files old new) are h

@@ -1,7 +1,7 @@
 -- What was read of a script, from line to line, and which lines these are.
 use Rattle.std.proofs.Common.{ap, sym, refl, inl, inr, ◌∙◌, ◌≡◌, ◌==◌, ◌+◌, ◌≤◌, ℕ, Bool, true, false, not, List, [], ◌∷◌, ◌++◌, Option, Some, None, IfSome, Ok, Err, take, drop, filter, if◌then◌else◌, length, arith, append_assoc, append-nil, length-append, length-drop}
 use Rattle.std.proofs.Math.Seq.{drop-append-add, take-append-add}
-use Rattle.std.proofs.lemmas.Bool.{cases_Bool}
+use Rattle.std.proofs.lemmas.Bool.{cases_Bool, not-false, not-true}
 use Rattle.pm_lines.proofs.Callers.{Answered, answered_all, answered_before, answered_ended, answered_last, answered_none, answered_whole}
 use Rattle.pm_lines.specs.Coming.{Answers, BreaksOff, Exceeds, IsOver, ReaderSeen, most_ahead}
 use Rattle.pm_lines.specs.Whole.{whole_lines}
@@ -87,19 +87,11 @@ whole_next (Some all) mid left first r new s goes_on answers open_line bound =
     let h = s.some goes_on in
     reads_last all first mid left r new h (rw h.answered.left_is at answers) open_line bound
 
-not_false : (b : Bool) → not b ≡ false → b ≡ true
-not_false true e = refl
-not_false false e = cc
-
-not_true : (b : Bool) → not b ≡ true → b ≡ false
-not_true true e = cc
-not_true false e = refl
-
 pub read_next : (script mid left : Option (List ℕ)) (first : List Line) (r new : ReaderSeen) → HasRead script mid first r → r.at_end ≡ false
     → IfSome mid (λ all. Answers all left r new) → new.at_end ≡ not new.line.ended → new.read ≤ most_script_bytes → HasRead script left (first ++ new.line ∷ []) new
 read_next script mid left first r new s goes_on answers last bound = record {
-  some = λ e. some_next script mid left first r new s goes_on answers (not_false new.line.ended (sym last ∙ e));
-  whole = λ e. whole_next script mid left first r new s goes_on answers (not_true new.line.ended (sym last ∙ e)) bound;
+  some = λ e. some_next script mid left first r new s goes_on answers (not-false new.line.ended (sym last ∙ e));
+  whole = λ e. whole_next script mid left first r new s goes_on answers (not-true new.line.ended (sym last ∙ e)) bound;
 }
 
 -- ---- the end

@@ -19,6 +19,7 @@ use Rattle.pm_run.specs.declared.status.RunFail.{RunFail}
 use Rattle.pm_run.specs.declared.status.RunFail.TheVariants as why
 use Rattle.pm_store.proofs.OutsideLemmas.{Gains-then}
 use Rattle.pm_store.specs.Outside.{GainsTold, GainsPart}
+use Rattle.std.proofs.Math.Bool.{or-false}
 
 -- ---- honesty
 pub kept_run : (M : Meanings) (book : List Rule) (old new : Machine) (lines : List Line) (replies : List (Option ReplySeen)) → Run M book old lines replies new → AllKept old → AllKept new
@@ -58,10 +59,6 @@ replies_text-append trace [] reply = append-nil (text_if trace reply)
 replies_text-append trace (r ∷ replies) reply =
     ap (λ (t : List ℕ). text_if trace r ++ t) (replies_text-append trace replies reply)
     ∙ sym (append_assoc (text_if trace r) (replies_text trace replies) (text_if trace reply))
-
-or-false : (b : Bool) → (b || false) ≡ b
-or-false true = refl
-or-false false = refl
 
 or-assoc : (a b c : Bool) → (a || (b || c)) ≡ ((a || b) || c)
 or-assoc true b c = refl

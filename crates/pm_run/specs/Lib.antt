@@ -4,3 +4,4 @@ pub mod Chosen
 pub mod Ends
 pub mod Examples
 pub mod Shipped
+pub mod ShippedExamples

@@ -1,11 +1,12 @@
 // The clients of the program, in one family, and a script answered with them.
 
 ghost use Rattle.pm_client.specs.Starts.{Clients};
-ghost use Rattle.pm_run.specs.Ends.{EndedBy};
+ghost use Rattle.pm_run.specs.Ends.{EndedBy, IsBadBook, IsUnrun};
 ghost use Rattle.pm_run.specs.Shipped.{ShippedFails, ShippedStays, shipped, shipped_client, shipped_clients, unstarted};
 ghost use Rattle.pm_standard.specs.Table.{standard_clients, wide_clients};
+ghost use Rattle.pm_store.specs.Outside.{Rose};
 ghost use Rattle.pm_words.specs.Words.{words_of};
-ghost use Rattle.std.specs.Prelude.{OnOk, [], map, string_bytes, ◌++◌, ◌∷◌, ◌≡◌};
+ghost use Rattle.std.specs.Prelude.{None, OnOk, [], map, string_bytes, ◌++◌, ◌∷◌, ◌≡◌, ◌≤◌, ◌⊎◌};
 
 use crate::run::polymake;
 use crate::status::Status;
@@ -238,8 +239,8 @@ fn push_client(
     Ok(())
 }
 
-/// Answers the lines of a script with the clients of the program, none of which was started. Where memory runs out
-/// before they are there, nothing was done.
+/// Answers the lines of a script with the clients of the program, none of which was started. Each status comes where it
+/// does by `polymake`. Where memory runs out before the clients are there, nothing was done.
 pub fn polymake_with_shipped<S: Source, K: Sink, F: Store>(
     alloc: Global,
     words: &[String],
@@ -247,6 +248,9 @@ pub fn polymake_with_shipped<S: Source, K: Sink, F: Store>(
     sink: &mut K,
     store: &mut F,
 ) -> Status
+    ensures words { result ≡ Status.BadWords → words_of (map string_bytes words.now) ≡ None }
+    ensures bad_words { words_of (map string_bytes words.now) ≡ None →
+        (result ≡ Status.BadWords) ⊎ (result ≡ Status.OutOfMemory) }
     ensures run { (after : Clients) × EndedBy shipped (words_of (map string_bytes words.now)) result (record {
       script = S.left source.old;
       left = S.left source.new;
@@ -259,6 +263,19 @@ pub fn polymake_with_shipped<S: Source, K: Sink, F: Store>(
       before = shipped_clients;
       after = after;
     }) }
+    ensures bad_book { result ≡ Status.BadBook →
+        IsBadBook (words_of (map string_bytes words.now)) shipped_clients
+        (F.files store.old) (F.faults store.old) (F.faults store.new) }
+    ensures unread { IsUnrun result → source.new ≡ source.old }
+    ensures untouched { IsUnrun result → sink.new ≡ sink.old }
+    ensures unasked { result ≡ Status.BadWords → store.new ≡ store.old }
+    ensures source_fault { result ≡ Status.SourceFault →
+        Rose (S.faults source.old) (S.faults source.new) }
+    ensures sink_fault { result ≡ Status.SinkFault →
+        Rose (K.faults sink.old) (K.faults sink.new) }
+    ensures source_count { S.faults source.old ≤ S.faults source.new }
+    ensures sink_count { K.faults sink.old ≤ K.faults sink.new }
+    ensures store_count { F.faults store.old ≤ F.faults store.new }
 {
     let works = ShippedWork::every();
     let mut clients: Vec<Box<dyn Client>> = Vec::new(alloc);

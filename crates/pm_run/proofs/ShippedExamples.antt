@@ -1,0 +1,158 @@
+-- The examples of the clients of the program: where a view has no values, none of what is told of them holds.
+use Rattle.pm_props.specs.declared.kind.Kind.{Kind}
+use Rattle.pm_run.specs.Shipped.{shipped_client}
+use Rattle.pm_run.specs.ShippedExamples.{AnswersAreShipped, ClientsAreShipped, FailuresAreShipped, KindsAreShipped, nameless}
+use Rattle.pm_run.specs.declared.shipped.ShippedWork.{ShippedWork}
+use Rattle.pm_standard.specs.Table.{standard_kind}
+use Rattle.pm_standard.specs.declared.standard.StandardClient.{StandardClient}
+use Rattle.pm_standard.specs.declared.standard.StandardClient.TheVariants as client
+use Rattle.std.proofs.Common.{ap, refl, sym, true≢false, ◌∙◌}
+use Rattle.std.specs.Prelude.{None, Some, false, length, nat_eq, ◌≡◌}
+
+-- ---- each client has a name
+named : (c : StandardClient) → nat_eq (length (standard_kind c).name) 0 ≡ false
+named client.DdVertices = refl
+named client.DdFacets = refl
+named client.DdFacetsV = refl
+named client.DdVerticesF = refl
+named client.ThinPointsLp = refl
+named client.ThinInequalitiesLp = refl
+named client.ThinPointsF = refl
+named client.ThinInequalitiesV = refl
+named client.VerticesFromSets = refl
+named client.FacetsFromSets = refl
+named client.PointsFromVertices = refl
+named client.InequalitiesFromFacets = refl
+named client.LinealityFromFacets = refl
+named client.HullFromVertices = refl
+named client.ConeDimV = refl
+named client.ConeDimSpan = refl
+named client.ConeDimPoints = refl
+named client.LinealityDim = refl
+named client.CombinatorialDim = refl
+named client.NVertices = refl
+named client.NVerticesSets = refl
+named client.NFacets = refl
+named client.NFacetsSets = refl
+named client.Feasible = refl
+named client.FeasibleLp = refl
+named client.Bounded = refl
+named client.FarFace = refl
+named client.Pointed = refl
+named client.FullDim = refl
+named client.Centered = refl
+named client.Incidence = refl
+named client.VertexSizes = refl
+named client.FacetSizes = refl
+named client.Simple = refl
+named client.Simplicial = refl
+named client.Faces = refl
+named client.FVector = refl
+named client.F2Vector = refl
+named client.HVector = refl
+named client.GraphOfSets = refl
+named client.GraphOfFaces = refl
+named client.DualGraph = refl
+named client.VertexDegrees = refl
+named client.Diameter = refl
+named client.DualDiameter = refl
+named client.NEdges = refl
+named client.NRidges = refl
+named client.LpMax = refl
+named client.LpMin = refl
+named client.LpMaxRows = refl
+named client.LpMinRows = refl
+named client.LpMaxV = refl
+named client.LpMinV = refl
+named client.LpMaxFace = refl
+named client.LpMinFace = refl
+named client.FanDims = refl
+named client.FanDim = refl
+named client.FanPure = refl
+named client.FanSimplicial = refl
+named client.FanSize = refl
+named client.BbFacets = refl
+named client.BbFacetsV = refl
+named client.Placing = refl
+named client.RegularCells = refl
+named client.Delaunay = refl
+named client.DdVerticesWide = refl
+named client.DdFacetsWide = refl
+named client.DdFacetsVWide = refl
+named client.DdVerticesFWide = refl
+named client.ThinPointsLpWide = refl
+named client.ThinInequalitiesLpWide = refl
+named client.ThinPointsFWide = refl
+named client.ThinInequalitiesVWide = refl
+named client.VerticesFromSetsWide = refl
+named client.FacetsFromSetsWide = refl
+named client.LinealityFromFacetsWide = refl
+named client.HullFromVerticesWide = refl
+named client.ConeDimVWide = refl
+named client.ConeDimPointsWide = refl
+named client.FeasibleLpWide = refl
+named client.IncidenceWide = refl
+named client.LpMaxWide = refl
+named client.LpMinWide = refl
+named client.LpMaxRowsWide = refl
+named client.LpMinRowsWide = refl
+named client.LpMaxVWide = refl
+named client.LpMinVWide = refl
+named client.LpMaxFaceWide = refl
+named client.LpMinFaceWide = refl
+named client.FanDimsWide = refl
+named client.BbFacetsWide = refl
+named client.BbFacetsVWide = refl
+named client.PlacingWide = refl
+named client.RegularCellsWide = refl
+named client.DelaunayWide = refl
+
+of_no_kind : (w : ShippedWork) → standard_kind (shipped_client w) ≡ nameless → ⊥
+of_no_kind w is = true≢false (sym (ap (λ (k : Kind). nat_eq (length k.name) 0) is) ∙ named (shipped_client w))
+
+pub kinds_are_shipped : KindsAreShipped
+kinds_are_shipped = record {
+  none_answers = λ d h. of_no_kind h.0 h.1;
+  none_fails = λ e h. of_no_kind h.0 h.1;
+}
+
+pub clients_are_shipped : ClientsAreShipped
+clients_are_shipped = record { many = refl; unstarted = (_, refl) }
+
+-- ---- no value is read
+none_read : {A : Type 0} {x : A} → None ≡ Some x → ⊥
+none_read e = cc
+
+pub answers_are_shipped : AnswersAreShipped
+answers_are_shipped = record {
+  copies = λ h. none_read h.0.reads;
+  null_spaces = λ h. none_read h.0.listed.reads_first;
+  dimensions = λ h. none_read h.listed.reads_first;
+  incidences = λ h. none_read h.reads_facets;
+  faces = λ h. none_read h.reads;
+  fans = λ h. none_read h.read.reads;
+  wide_incidences = tt;
+  counts = λ w. tt;
+}
+
+pub failures_are_shipped : FailuresAreShipped
+failures_are_shipped = record {
+  hulls = λ h. none_read h.reads;
+  redundant = λ h. none_read h.reads;
+  feasible = λ h. none_read h.read.reads_first;
+  thinned = λ h. none_read h.reads;
+  null_spaces = λ h. none_read h.0.reads;
+  dimensions = λ h. none_read h.0.reads;
+  incidences = λ h. none_read h.reads;
+  faces = λ h. none_read h.reads;
+  optima = λ h. none_read h.read.reads_first;
+  fans = λ h. none_read h.0.reads;
+  placed = λ h. none_read h.reads;
+  lifted = λ h. none_read h.reads;
+  in_want = tt;
+  copies = λ v e h. cc;
+  wide_incidences = λ v e h. cc;
+  sizes = λ w v e h. cc;
+  truths = λ w v e h. cc;
+  graphs = λ w v e h. cc;
+}
