@@ -7,13 +7,13 @@ use Rattle.pm_laws_things.proofs.ExistingShapes.{shapes_exist}
 use Rattle.pm_laws_things.proofs.OrdersExist.{orders_exist}
 use Rattle.pm_laws_things.specs.BuildingExamples.{unit_segment}
 use Rattle.pm_laws_lineage.proofs.Cubes.{cube_is_bounded, polar_points}
-use Rattle.pm_laws_lineage.proofs.Reading.{shown_is_right}
+use Rattle.pm_laws_lineage.proofs.Reading.{shown_is_right, shown_of_program_is_right}
 use Rattle.pm_laws_lineage.proofs.Counts.{savable_one}
-use Rattle.pm_props.specs.declared.property.PropId.TheVariants.{Bounded, Facets, LinealitySpace, Points, Vertices}
-use Rattle.std.proofs.lemmas.List.Elements.{All-nil}
-use Rattle.pm_laws_lineage.specs.Examples.{FilesAreRead, GivenValuesAreRead, ProvenancesAreRead, PolarOfCubeIsShown, PolarsOfCubesAreCrosses, polar_of_cube}
+use Rattle.pm_props.specs.declared.property.PropId.TheVariants.{Bounded, Facets, LinealitySpace, MaximalValue, Points, Vertices}
+use Rattle.std.proofs.lemmas.List.Elements.{All-cons, All-head, All-nil}
+use Rattle.pm_laws_lineage.specs.Examples.{FilesAreRead, GivenValuesAreRead, ProgramOfPolarIsShown, ProvenancesAreRead, PolarOfCubeIsShown, PolarsOfCubesAreCrosses, held_objective, polar_of_cube}
 use Rattle.pm_laws_lineage.specs.Provenances.{Provenance, Provenances, after_taking, keeps_lineage, lineage_of, made, made_with, of_its_values, provenance_given, provenance_of}
-use Rattle.pm_laws_lineage.specs.Lineages.{Denotes, IsObjectiveOf, Lineage, one, shape, with_value}
+use Rattle.pm_laws_lineage.specs.Lineages.{Denotes, IsObjectiveOf, Lineage, one, shape, with_objectives, with_value}
 use Rattle.pm_limits.specs.Limits.{most_dimensions}
 use Rattle.pm_object.specs.Known.{cols_at, rows_at}
 use Rattle.pm_object.specs.State.{State, read_at, value_of}
@@ -24,8 +24,9 @@ use Rattle.pm_props.specs.declared.property.PropId.{PropId}
 use Rattle.pm_props.specs.Sets.{has, only, union}
 use Rattle.pm_types.specs.Forms.{agrees_with}
 use Rattle.pm_types.specs.Things.{Thing}
-use Rattle.pm_types.specs.Values.{matrix, truth}
-use Rattle.std.proofs.Common.{ap, arith, false, refl, subst, suc, sym, true, true≢false, ◌∙◌, ◌≢◌}
+use Rattle.pm_types.specs.Values.{extended, matrix, truth}
+use Rattle.pm_vector.specs.Numbers.{Ratio}
+use Rattle.std.proofs.Common.{ap, ap₂, arith, false, refl, subst, suc, sym, true, true≢false, ◌∙◌, ◌≢◌}
 use Rattle.std.specs.Option.{option_map, unwrap_or}
 use Rattle.std.specs.Prelude.{Bool, IsTrue, List, None, Option, Some, [], codes, if◌then◌else◌, ℕ, ◌∷◌, ◌≡◌, ◌≤◌, ◌↔◌}
 use lib.IntN.{pos}
@@ -69,6 +70,29 @@ pub polar_of_cube_is_shown : PolarOfCubeIsShown
 polar_of_cube_is_shown n some few o v stands e u thing cross =
     let (is, t, cube, polar) = (polars_are_crosses.same n some few u).1 (thing, cross) in
     shown_is_right (polar_of_cube n) o Vertices v stands e u ((thing, t, (cube, All-nil (IsObjectiveOf t)), polar), All-nil (IsObjectiveOf u))
+
+-- ---- a program of the polar
+pub program_of_polar_is_shown : ProgramOfPolarIsShown
+program_of_polar_is_shown = record {
+  greatest = λ n s some few o c x stands e objective u thing cross same.
+      let of_polar = (polars_are_crosses.same n some few u).1 (thing, cross) in
+      let columns : suc n ≡ u.cols = sym cross.cols in
+      let objective_is : IsObjectiveOf u (held_objective s (suc n) c) = record { program = s; place = refl; property = refl; value = ap₂ (λ k d. matrix k (d ∷ [])) columns (sym same) } in
+      (shown_of_program_is_right (with_objectives (one Polar (shape (cube_shape n))) (held_objective s (suc n) c ∷ [])) o s MaximalValue (extended x) (suc n) c stands refl e objective u (of_polar, All-cons (IsObjectiveOf u) (held_objective s (suc n) c) [] objective_is (All-nil (IsObjectiveOf u)))).2;
+  other = λ n s c u differs h. differs (objective_of_held n s c u (All-head (IsObjectiveOf u) (held_objective s (suc n) c) [] h.1));
+}
+  where
+    objective_of_held : (n s : ℕ) (c : List Ratio) (u : Thing) → IsObjectiveOf u (held_objective s (suc n) c) → u.objective s ≡ c
+    objective_of_held n s c u is = at is.program (same_number s is.program is.place) is.value
+      where
+        same_number : (a b : ℕ) → ◌≡◌ {A = Option ℕ} (Some a) (Some b) → a ≡ b
+        same_number a b e = cc
+
+        at : (r : ℕ) → s ≡ r → matrix (suc n) (c ∷ []) ≡ matrix u.cols (u.objective r ∷ []) → u.objective s ≡ c
+        at r e v = ap (λ k. u.objective k) e ∙ sym (first_row c (u.objective r) v)
+          where
+            first_row : (a b : List Ratio) → matrix (suc n) (a ∷ []) ≡ matrix u.cols (b ∷ []) → a ≡ b
+            first_row a b e = cc
 
 -- ---- given values
 no_truth : (P : Type 0) → P → IsTrue false ↔ P → ⊥

@@ -4,7 +4,7 @@ use Rattle.pm_laws_things.specs.BuildingLaws.{ReadRight}
 use Rattle.pm_laws_things.specs.FanLaws.{ReadRightFan}
 use Rattle.pm_laws_lineage.proofs.Sound.{KnowsDimension, Sound, SoundHeld, sound_held}
 use Rattle.pm_laws_lineage.specs.Provenances.{Provenance, StandsFor, lineage_of, made, of_its_values}
-use Rattle.pm_laws_lineage.specs.Laws.{ShownIsRight}
+use Rattle.pm_laws_lineage.specs.Laws.{ShownIsRight, ShownOfProgramIsRight}
 use Rattle.pm_making.specs.Made.{IsRead}
 use Rattle.pm_object.proofs.Formed.{value_among}
 use Rattle.pm_object.specs.Honest.{IsHonest, facts}
@@ -15,16 +15,16 @@ use Rattle.pm_props.proofs.Places.{same_place_is}
 use Rattle.pm_props.specs.Places.{place_of, same_place}
 use Rattle.pm_props.specs.Properties.{has_program}
 use Rattle.pm_props.specs.declared.property.PropId.{PropId}
-use Rattle.pm_props.specs.declared.property.PropId.TheVariants.{ConeAmbientDim}
+use Rattle.pm_props.specs.declared.property.PropId.TheVariants.{ConeAmbientDim, LinearObjective}
 use Rattle.pm_types.specs.Right.{Right, RightAll, objective_of}
 use Rattle.pm_types.specs.Things.{Thing}
-use Rattle.pm_types.specs.Values.{PropertyValue, whole}
+use Rattle.pm_types.specs.Values.{PropertyValue, matrix, whole}
 use Rattle.pm_vector.proofs.Filters.{among_map, filter_among}
 use Rattle.pm_vector.proofs.Lists.{All_among, Among, Contains_among}
 use Rattle.pm_vector.specs.Numbers.{Ratio}
 use Rattle.std.proofs.Common.{ap, false, inl, inr, refl, subst, sym, true, true≢false, ◌∙◌}
 use Rattle.std.specs.Option.{is_some, unwrap_or}
-use Rattle.std.specs.Prelude.{Bool, List, None, Option, Some, [], if◌then◌else◌, ℕ, ◌≡◌}
+use Rattle.std.specs.Prelude.{Bool, List, None, Option, Some, [], if◌then◌else◌, ℕ, ◌∷◌, ◌≡◌}
 use lib.IntN.{pos}
 
 -- ---- all values
@@ -57,6 +57,24 @@ own_right held t p q v r e =
     let (j, at) = filter_among (λ (h : HeldValue). same_place h.place (place_of None h.property)) held i in
     let own : h.place ≡ None = same_place_is h.place (place_of None h.property) at ∙ place_none h.property in
     subst (λ z. Right z v t p []) is (subst (λ z. Right h.property z t p []) same (subst (λ z. Right h.property h.value t p (objective_of t z)) own (right_at held t p h r j)))
+
+-- ---- one value of a linear program
+place_some : (s : ℕ) (p : PropId) → has_program p ≡ true → place_of (Some s) p ≡ Some s
+place_some s p h = ap (λ (b : Bool). if b then Some s else None) h
+
+pub program_right : (held : List HeldValue) (t : Thing) (p : Orders) (s : ℕ) (q : PropId) (v : PropertyValue) → RightAll (facts held) t p → has_program q ≡ true → value_of q (read_at (Some s) held) ≡ Some v → Right q v t p (t.objective s)
+program_right held t p s q v r has e =
+    let (h, i, is, same) = value_among q (read_at (Some s) held) v e in
+    let (j, at) = filter_among (λ (h : HeldValue). same_place h.place (place_of (Some s) h.property)) held i in
+    let own : h.place ≡ Some s = same_place_is h.place (place_of (Some s) h.property) at ∙ place_some s h.property (ap has_program is ∙ has) in
+    subst (λ z. Right z v t p (t.objective s)) is (subst (λ z. Right h.property z t p (t.objective s)) same (subst (λ z. Right h.property h.value t p (objective_of t z)) own (right_at held t p h r j)))
+
+-- the objective that is held is the thing's
+first_row : (c d : List Ratio) → ◌≡◌ {A = List (List Ratio)} (c ∷ []) (d ∷ []) → d ≡ c
+first_row c d e = cc
+
+objective_held : (held : List HeldValue) (t : Thing) (p : Orders) (s n : ℕ) (c : List Ratio) → RightAll (facts held) t p → value_of LinearObjective (read_at (Some s) held) ≡ Some (matrix n (c ∷ [])) → t.objective s ≡ c
+objective_held held t p s n c r e = first_row c (t.objective s) (program_right held t p s LinearObjective (matrix n (c ∷ [])) r refl e)
 
 -- ---- the dimension
 ambient_value : (v : PropertyValue) (t : Thing) (p : Orders) (c : List Ratio) → Right ConeAmbientDim v t p c → v ≡ whole (pos t.cols)
@@ -99,6 +117,11 @@ read_right_fan ps a t p read knows of r = record {
   cols = sym (ap (λ z. unwrap_or z 1) (cols_known a t p r (known_dimension ps a read knows)));
   values = All_among (λ q. (v : PropertyValue) → value_of q (read_at None a.held) ≡ Some v → Right q v t p []) ps (λ q i v e. own_right a.held t p q v r e);
 }
+
+pub shown_of_program_is_right : ShownOfProgramIsRight
+shown_of_program_is_right l o s p v n c stands has e objective u d =
+    let (of, q, r) = stands.right u d in
+    (q, r.orders, subst (λ z. Right p v u q z) (objective_held o.held u q s n c r objective) (program_right o.held u q s p v r has e))
 
 pub shown_is_right : ShownIsRight
 shown_is_right l o p v stands e u d = let (of, q, r) = stands.right u d in (q, r.orders, own_right o.held u q p v r e)

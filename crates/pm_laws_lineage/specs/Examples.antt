@@ -16,15 +16,17 @@ use Rattle.pm_object_type.specs.declared.object_type.ObjectType.{ObjectType}
 use Rattle.pm_object_type.specs.declared.object_type.ObjectType.TheVariants.{Polytope}
 use Rattle.pm_props.specs.Kinds.{finding}
 use Rattle.pm_props.specs.declared.property.PropId.{PropId}
-use Rattle.pm_props.specs.declared.property.PropId.TheVariants.{Bounded, ConeAmbientDim, Equations, Facets, Inequalities, InputLineality, LinealitySpace, LinearObjective, MaximalDual, NVertices, Points, Sites, Vertices}
+use Rattle.pm_props.specs.declared.property.PropId.TheVariants.{Bounded, ConeAmbientDim, Equations, Facets, Inequalities, InputLineality, LinealitySpace, LinearObjective, MaximalDual, MaximalValue, NVertices, Points, Sites, Vertices}
 use Rattle.pm_rules.specs.declared.rule.Rule.{Rule}
 use Rattle.pm_script.specs.Replies.{Rounds, done, nothing, refused}
 use Rattle.pm_script.specs.declared.refusal.Refusal.TheVariants.{NoChain}
 use Rattle.pm_geom.specs.Things.{Orders}
 use Rattle.pm_laws_things.specs.Built.{IsCross}
-use Rattle.pm_types.specs.Right.{Right}
+use Rattle.pm_types.specs.Programs.{IsGreatest}
+use Rattle.pm_types.specs.Right.{InSet, Right}
 use Rattle.pm_types.specs.Things.{AreOrders, IsThing, Thing}
-use Rattle.pm_types.specs.Values.{PropertyValue, matrix, truth, whole}
+use Rattle.pm_types.specs.Values.{Extended, PropertyValue, extended, matrix, truth, whole}
+use Rattle.pm_vector.specs.Numbers.{Ratio}
 use lib.IntN.{pos}
 
 -- the polars of the cube are the cross-polytopes
@@ -63,6 +65,22 @@ abbrev pub PolarOfCubeIsShown : Type 0
 PolarOfCubeIsShown = (n : ℕ) → 1 ≤ n → n ≤ most_dimensions → (o : State) (v : PropertyValue)
     → StandsFor (polar_of_cube n) o → value_of Vertices (read_at None o.held) ≡ Some v
     → (u : Thing) → IsThing u → IsCross n u → (q : Orders) × AreOrders u q × Right Vertices v u q []
+
+-- the objective c, held by the program at the place s
+abbrev pub held_objective : ℕ → ℕ → List Ratio → HeldValue
+held_objective s n c = given_at (Some s) LinearObjective (matrix n (c ∷ []))
+
+-- what the program lp of d holds as MAXIMAL_VALUE, whose objective was given, is the greatest value on each
+-- cross-polytope in n dimensions; and where some greatest value is another one, it is none of this
+pub record ProgramOfPolarIsShown : Type 0 where
+  pub greatest : (n s : ℕ) → 1 ≤ n → n ≤ most_dimensions → (o : State) (c : List Ratio) (x : Extended)
+      → StandsFor (with_objectives (one Polar (shape (cube_shape n))) (held_objective s (suc n) c ∷ [])) o
+      → value_of MaximalValue (read_at (Some s) o.held) ≡ Some (extended x)
+      → value_of LinearObjective (read_at (Some s) o.held) ≡ Some (matrix (suc n) (c ∷ []))
+      → (u : Thing) → IsThing u → IsCross n u → u.objective s ≡ c → IsGreatest (InSet u) c x
+  -- of a thing with another objective the lineage says nothing
+  pub other : (n s : ℕ) (c : List Ratio) (u : Thing) → ¬ (u.objective s ≡ c)
+      → ¬ (Denotes (with_objectives (one Polar (shape (cube_shape n))) (held_objective s (suc n) c ∷ [])) u)
 
 -- the objects c and d, and the program lp of d
 abbrev pub object_c : RefSeen

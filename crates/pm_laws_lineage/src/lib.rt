@@ -2,8 +2,8 @@
 //! has no code.
 #![tactic(auto)]
 
-ghost use Rattle.pm_laws_lineage.specs.Examples.{FilesAreRead, GivenValuesAreRead, ProvenancesAreRead, PolarOfCubeIsShown, PolarsOfCubesAreCrosses};
-ghost use Rattle.pm_laws_lineage.specs.Laws.{RunsKeepLineage, ShownIsRight, StepsInPartKeepLineage};
+ghost use Rattle.pm_laws_lineage.specs.Examples.{FilesAreRead, GivenValuesAreRead, ProgramOfPolarIsShown, ProvenancesAreRead, PolarOfCubeIsShown, PolarsOfCubesAreCrosses};
+ghost use Rattle.pm_laws_lineage.specs.Laws.{RunsKeepLineage, ShownIsRight, ShownOfProgramIsRight, StepsInPartKeepLineage};
 ghost use Rattle.pm_laws_lineage.specs.Runs.{RunKeepsLineage};
 ghost use Rattle.pm_laws_lineage.specs.Saved.{EnsuredIsSaid, LoadedAgainIsRight, LoadedAgainStands, LoadedUnaskedStands, MadeAreSavable, ObjectsAreSavable, StandardBooksKeepHalves, StandardKindsKeepHalves};
 
@@ -28,6 +28,12 @@ pub fn law_steps_in_part_keep_lineage()
 /// A value that an object holds is right, in some orders, for each thing that the object stands for.
 pub fn law_shown_is_right()
     ensures { ShownIsRight }
+{}
+
+/// A value of a linear program of an object is right, in some orders, for each thing that the object stands for, by the
+/// objective that the program holds: of what was built, or loaded, as of what was given.
+pub fn law_shown_of_program_is_right()
+    ensures { ShownOfProgramIsRight }
 {}
 
 /// Whatever an object stands for, what is loaded of its file stands for it too, where nothing went without saying.
@@ -81,6 +87,11 @@ pub fn example_polars_of_cubes()
 /// After `make c cube n` and `polar c d` the VERTICES of d are right for each cross-polytope.
 pub fn example_polar_of_cube()
     ensures { PolarOfCubeIsShown }
+{}
+
+/// An optimum of a linear program of the polar of a cube is the cross-polytope's, of the objective that was given.
+pub fn example_program_of_polar()
+    ensures { ProgramOfPolarIsShown }
 {}
 
 /// What a value that is given to a cube itself says of it, and of which properties a lineage knows.
