@@ -249,3 +249,15 @@ def cited_definitions(item):
             places[name.strip()] = f"{crate}/specs/{file}.antt"
     clauses = item.head.partition("ensures")[2]
     return [(places[name], name) for name in dict.fromkeys(re.findall(r"\w+", clauses)) if name in places]
+
+
+@functools.cache
+def cited_proofs():
+    """The files of proofs/ that another crate cites, by crate."""
+    found = {}
+    for file in sorted(CRATES.glob("*/proofs/**/*.antt")):
+        user = file.relative_to(CRATES).parts[0]
+        for crate, name in re.findall(r"^use Rattle\.(pm_\w+)\.proofs\.(\w+)", file.read_text(), re.M):
+            if crate != user:
+                found.setdefault(crate, set()).add(CRATES / crate / f"proofs/{name}.antt")
+    return {crate: sorted(files) for crate, files in found.items()}
