@@ -286,7 +286,7 @@ def check_absent(check):
 
 
 def check_explained(check):
-    """What is said of refused lines, and of each session of tests/."""
+    """What is said of refused lines, and of each session of tests/sessions."""
     check_absent(check)
     for line, told in SLIPS:
         said = fault_of_line(line) or ""
@@ -295,7 +295,7 @@ def check_explained(check):
         explainer, lines = Explainer(), text.split("\n")
         said = [explainer.told(Line(1, line), reply) for line, reply in zip(lines[::2], lines[1::2])][-1] or ""
         check.is_so(f"the script {text!r:.160}", told in said, f"{said!r}, without {told!r}")
-    for path in sorted((bridges.TOP / "tests").rglob("*.session")):
+    for path in sorted((bridges.TOP / "tests/sessions").rglob("*.session")):
         check_session(check, path.name, path.read_text())
     for path in sorted((bridges.TOP / "docs").glob("*.md")):
         for number, block in enumerate(re.findall(r"^```session\n(.*?)^```$", path.read_text(), re.M | re.S)):

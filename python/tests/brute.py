@@ -1,4 +1,4 @@
-"""Brute force of .ci: properties of a polytope or a cone by all sets of its rows, as Python values."""
+"""Brute force of tests/random: properties of a polytope or a cone by all sets of its rows, as Python values."""
 
 import json
 import sys
@@ -6,7 +6,7 @@ from fractions import Fraction
 from pathlib import Path
 
 TOP = Path(__file__).resolve().parents[2]
-sys.path.append(str(TOP / ".ci"))
+sys.path.append(str(TOP / "tests/random"))
 
 import check_geometry
 import check_programs

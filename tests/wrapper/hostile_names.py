@@ -17,7 +17,7 @@ import tempfile
 from dataclasses import dataclass, field
 
 sys.dont_write_bytecode = True
-TOP = os.path.dirname(os.path.dirname(os.path.abspath(__file__)))
+TOP = os.path.dirname(os.path.dirname(os.path.dirname(os.path.abspath(__file__))))
 sys.path[:0] = [f'{TOP}/bridge', f'{TOP}/bench']
 
 import ask

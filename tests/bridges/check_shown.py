@@ -10,7 +10,7 @@ import sys
 import tempfile
 
 sys.dont_write_bytecode = True
-TOP = os.path.dirname(os.path.dirname(os.path.abspath(__file__)))
+TOP = os.path.dirname(os.path.dirname(os.path.dirname(os.path.abspath(__file__))))
 sys.path.insert(0, f'{TOP}/bridge')
 
 from session import Session
@@ -22,9 +22,9 @@ FAULTS = []
 
 def scripts():
     """The scripts in which a rule fails, each with a name."""
-    for name in sorted(os.listdir(f'{TOP}/tests')):
+    for name in sorted(os.listdir(f'{TOP}/tests/sessions')):
         if name.endswith('.session'):
-            with open(f'{TOP}/tests/{name}', encoding='utf-8') as file:
+            with open(f'{TOP}/tests/sessions/{name}', encoding='utf-8') as file:
                 text = file.read()
             if re.search(r'^> .*failed \S+ E[1-5]', text, re.M) or re.search(r'^> excluded \S+ failed', text, re.M):
                 yield name, text
@@ -118,7 +118,7 @@ def check_script(program, where, text):
     commands = [it for it, reply in zip(lines, behind) if it and not it.startswith(('> ', '#')) and reply != '> no 1 BadCommand']
     folder = tempfile.mkdtemp()
     try:
-        shutil.copytree(f'{TOP}/tests/data', folder, dirs_exist_ok=True)
+        shutil.copytree(f'{TOP}/tests/sessions/data', folder, dirs_exist_ok=True)
         with Session(program, [], folder) as session:
             for command in commands:
                 session.ask(command)

@@ -5,7 +5,7 @@
 - Behind them stand the wide rules: each is the standard rule of its name without "_wide", and weighs one more.
 - It has the rules of the table of the code, one by one.
 - The program has one client for each wide rule, and no wide client for another rule.
-- Each wide rule answers in a session of tests/wide after its standard rule failed there.
+- Each wide rule answers in a session of tests/sessions/wide after its standard rule failed there.
 """
 import glob
 import os
@@ -15,10 +15,11 @@ import sys
 from itertools import zip_longest
 
 sys.dont_write_bytecode = True
+TOP = os.path.dirname(os.path.dirname(os.path.dirname(os.path.abspath(__file__))))
+sys.path.insert(0, f'{TOP}/tests/random')
 
 from running import Runs
 
-TOP = os.path.dirname(os.path.dirname(os.path.abspath(__file__)))
 BOOK = 'wide.rules'
 WIDE = '_wide'
 RULE = re.compile(r'(\w+) : rule (.+?) : (.+?) \{ (\w+) \} weight (\d+);(?: precondition : (.+);)?')
@@ -130,15 +131,15 @@ def answered(rounds):
 
 def check_sessions(runs, wide):
     """The replies themselves are compared with those of the session where all sessions are run."""
-    shutil.copytree(f'{TOP}/tests/data', runs.room, dirs_exist_ok=True)
+    shutil.copytree(f'{TOP}/tests/sessions/data', runs.room, dirs_exist_ok=True)
     found = set()
-    for path in sorted(glob.glob(f'{TOP}/tests/wide/*.session')):
+    for path in sorted(glob.glob(f'{TOP}/tests/sessions/wide/*.session')):
         lines = read(os.path.relpath(path, TOP)).splitlines(keepends=True)
         script = ''.join(line for line in lines if not line.startswith('> '))
         replies = runs.run(script, ['--rules', BOOK])[1].decode().splitlines()
         found = found.union(*map(answered, round_lists(replies)))
     silent = [it.label for it in wide if it.label not in found]
-    runs.wants(silent, [], 'wide rules that answer in no session of tests/wide after their standard rule failed there')
+    runs.wants(silent, [], 'wide rules that answer in no session of tests/sessions/wide after their standard rule failed there')
 
 
 def main(program):

@@ -20,7 +20,7 @@ import check_sets
 import check_texts
 from running import Runs
 
-TOP = os.path.dirname(os.path.dirname(os.path.abspath(__file__)))
+TOP = os.path.dirname(os.path.dirname(os.path.dirname(os.path.abspath(__file__))))
 MADE = {}
 SEED = os.environ.get('SEED', '')
 TIMES_MORE = int(os.environ.get('TIMES_MORE', '1'))
@@ -34,7 +34,7 @@ def made(make, seed, words):
 
 
 def standard_rules():
-    with open(f'{TOP}/tests/rules.session') as file:
+    with open(f'{TOP}/tests/sessions/rules.session') as file:
         lines = [line[2:].rstrip('\n') for line in file if line.startswith('> ') and ' : rule ' in line]
     return check_plans.read_rules(list(dict.fromkeys(lines)))
 
@@ -150,4 +150,4 @@ def main(tried):
 
 
 if __name__ == '__main__':
-    sys.exit(main(sys.argv[1:]))
+    sys.exit(main([os.path.abspath(program) for program in sys.argv[1:]]))

@@ -15,7 +15,7 @@ import tempfile
 from math import comb
 
 sys.dont_write_bytecode = True
-TOP = os.path.dirname(os.path.dirname(os.path.abspath(__file__)))
+TOP = os.path.dirname(os.path.dirname(os.path.dirname(os.path.abspath(__file__))))
 sys.path[:0] = [f'{TOP}/bridge', f'{TOP}/bench']
 
 from answers import canonical
@@ -381,7 +381,7 @@ def compare(program, folder):
 
 
 def main():
-    words = argparse.ArgumentParser(prog='.ci/compare_with_polymake.py', description=__doc__.split('\n')[0])
+    words = argparse.ArgumentParser(prog='tests/random/compare_with_polymake.py', description=__doc__.split('\n')[0])
     words.add_argument('--program', default=f'{TOP}/crates/pm_shell/out/pm_shell', metavar='PATH', help='the built program')
     words.add_argument('--folder', metavar='PATH', help='where the files are, or are put')
     options = words.parse_args()
