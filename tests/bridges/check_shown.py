@@ -128,7 +128,8 @@ def check_script(program, where, text):
 
 
 def main(words):
-    count = sum(check_script(words[0], where, text) for where, text in scripts())
+    program = os.path.abspath(words[0])
+    count = sum(check_script(program, where, text) for where, text in scripts())
     for fault in FAULTS[:20]:
         print(f'evidence that is shown: {fault}')
     if count < 20:
