@@ -1,12 +1,11 @@
--- Whether inequalities and equations have a point, by the answers of their program.
+-- Whether inequalities and equations have a point, by the greatest value of their program.
 use Rattle.pm_vector.proofs.Lists.{all_append, append_all}
 use Rattle.pm_vector.proofs.RowLaws.{dot_comm}
 use Rattle.pm_vector.specs.Rows.{Row, dot, entry}
 use Rattle.pm_clients_geom.specs.Points.{HasSolution}
 use Rattle.pm_vector.proofs.DotLaws.{dot-unit}
 use Rattle.pm_vector.specs.Evidence.{unit}
-use Rattle.pm_geom.proofs.Duality.{direction_is_without_bound, infeasible_has_no_point, optimum_is_maximum}
-use Rattle.pm_geom.specs.Programs.{IsInfeasible, IsOptimal, IsUnbounded}
+use Rattle.pm_geom.specs.Programs.{HasNoPoint, IsMaximum, IsWithoutBound}
 use Rattle.pm_geom.specs.Programs as programs
 use Rattle.pm_vector.specs.Numbers.{Ratio}
 use Rattle.pm_incidence.specs.Thinning.{half_spaces}
@@ -24,16 +23,10 @@ module _ (n : ℕ) (A E : List Row) where
   found_point : (x : Row) → length x ≡ n → programs.Solves A E x → pos 0 <ℤ entry x 0 → HasSolution n A E
   found_point x lx s up = record { row = x; cols = lx; solves = (solves_as A E x).1 (s.equations, s.inequalities); first = up }
 
-  pub optimal_has_point : {v : Ratio} {p y : List Ratio} → IsOptimal A E (no_objective n) v p y → HasSolution n A E
-  optimal_has_point {v} {p} {y} h = let m = (optimum_is_maximum A E (no_objective n) v p y h).attained in found_point m.whole (m.cols ∙ objective_length n) m.inside m.first
-
-  pub unbounded_has_point : {p d : List Ratio} → IsUnbounded A E (no_objective n) p d → HasSolution n A E
-  unbounded_has_point {p} {d} h = let m = direction_is_without_bound A E (no_objective n) p d h in found_point m.point (m.point_cols ∙ objective_length n) m.point_inside m.first
-
-  pub infeasible_has_none : {y : List Ratio} → IsInfeasible A E y → ¬ (HasSolution n A E)
-  infeasible_has_none {y} h w =
+  pub pointless_has_none : HasNoPoint (programs.Solves A E) → ¬ (HasSolution n A E)
+  pointless_has_none h w =
       let s = (solves_as A E w.row).0 w.solves in
-      infeasible_has_no_point A E y h w.row (record { inequalities = s.1; equations = s.0 }) w.first
+      h w.row (record { inequalities = s.1; equations = s.0 }) w.first
 
   -- a point has x0 >= 0
   module _ (some : 0 < n) where

@@ -12,9 +12,10 @@ ghost use Rattle.std.specs.Prelude.{IfErr, IfOk, IsTrue, length, ◌<◌, ◌^�
 
 use pm_fraction::Fraction;
 use pm_incidence::with_first;
-use pm_simplex::{LpAnswer, LpFail};
+use pm_simplex::LpFail;
+use pm_types::Number;
 use pm_vector::Ints;
-use pm_wide_programs::maximise_rows_by;
+use pm_wide_programs::greatest_by;
 use std::alloc::{AllocError, Global};
 
 /// The objective 0.
@@ -43,20 +44,10 @@ fn is_feasible(
         (ShowsProgram inequalities.now equations.now (no_objective cols))) }
 {
     let objective = no_objective(alloc, cols)?;
-    let answer = maximise_rows_by(alloc, inequalities, equations, &objective, wide)?;
-    match &answer {
-        LpAnswer::Infeasible { .. } => {
-            drop(answer);
-            Ok(false)
-        }
-        LpAnswer::Optimal { .. } => {
-            drop(answer);
-            Ok(true)
-        }
-        LpAnswer::Unbounded { .. } => {
-            drop(answer);
-            Ok(true)
-        }
+    match greatest_by(alloc, inequalities, equations, &objective, wide)? {
+        Number::Finite(_) => Ok(true),
+        Number::Plus => Ok(true),
+        Number::Minus => Ok(false),
     }
 }
 

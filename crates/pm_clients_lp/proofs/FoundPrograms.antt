@@ -13,9 +13,9 @@ use Rattle.pm_clients_lp.proofs.DualRight.{bound, directions}
 use Rattle.pm_clients_lp.proofs.FacetRows.{facet_row, facets_differ}
 use Rattle.pm_clients_lp.proofs.Facts.{not_a_fan, objective_cols, objective_is, objective_of_polytope, read_at, rows_cols, some_columns}
 use Rattle.pm_clients_lp.proofs.Found.{optimum_as}
-use Rattle.pm_clients_lp.proofs.Told.{cut_greatest, solves_halves, told}
+use Rattle.pm_clients_lp.proofs.Told.{cut_greatest, solves_halves}
 use Rattle.pm_clients_lp.proofs.Sense.{ArePutWithDual, ForEach, value_sound, with_dual_sound}
-use Rattle.pm_clients_lp.specs.Programs.{IsDualMatrixOf, IsFoundWithDual, greatest_in}
+use Rattle.pm_clients_lp.specs.Programs.{IsDualMatrixOf, IsFoundWithDual}
 use Rattle.pm_dd.proofs.ZeroRows.{dot_zero}
 use Rattle.pm_dual.specs.Answers.{IsAnswer}
 use Rattle.pm_dual.specs.declared.answer.LpAnswer.TheVariants.{Infeasible, Optimal, Unbounded}
@@ -43,6 +43,8 @@ use Rattle.pm_types.specs.Programs.{IsGreatest}
 use Rattle.pm_types.specs.Right.{AreDualRows, CutsOutOf, CutsOutPolytope, InSet, IsGreatestDual, PairCutsOut, RightAll, RightPair}
 use Rattle.pm_types.specs.Things.{Thing}
 use Rattle.pm_types.specs.Values.{Extended, extended, matrix}
+use Rattle.pm_wide_programs.proofs.Shown.{told}
+use Rattle.pm_wide_programs.specs.Greatest.{greatest_in}
 use Rattle.std.proofs.Common.{ap, arith, inl, inr, refl, subst, sym, ◌∙◌}
 use Rattle.std.proofs.lemmas.Int.{ints}
 use Rattle.std.specs.Prelude.{List, [], length, ℕ, ◌<◌, ◌↔◌, ◌≡◌, ◌≤◌}

@@ -1,19 +1,14 @@
--- What answers of linear programs over half-spaces tell of a thing that these cut out.
+-- The greatest value at the solutions of half-spaces is that of the thing that these cut out.
 use Rattle.pm_vector.proofs.Lists.{all_append, append_all}
 use Rattle.pm_vector.proofs.RowLaws.{dot_comm}
 use Rattle.pm_vector.specs.Cones.{InCone}
 use Rattle.pm_vector.specs.Numbers.{Ratio}
 use Rattle.pm_vector.specs.Rows.{HasCols, Row, dot, entry}
 use Rattle.pm_clients_lp.proofs.Greatest.{fit, fit_length, fit_same, greatest_as}
-use Rattle.pm_clients_lp.specs.Programs.{greatest_in}
 use Rattle.pm_vector.proofs.ConeLaws.{in_same}
 use Rattle.pm_dd.specs.Fronts.{HalfSpaces}
-use Rattle.pm_dual.specs.Answers.{IsAnswer}
-use Rattle.pm_dual.specs.declared.answer.LpAnswer.TheVariants.{Infeasible, Optimal, Unbounded}
-use Rattle.pm_dual.specs.declared.answer.LpAnswer.{LpAnswer}
 use Rattle.pm_vector.proofs.DotLaws.{dot-unit}
 use Rattle.pm_vector.specs.Evidence.{unit}
-use Rattle.pm_geom.proofs.Duality.{direction_is_without_bound, infeasible_has_no_point, optimum_is_maximum}
 use Rattle.pm_geom.specs.Programs.{Solves}
 use Rattle.pm_incidence.specs.Thinning.{half_spaces}
 use Rattle.pm_object_type.specs.declared.object_type.ObjectType.TheVariants.{Polytope}
@@ -26,12 +21,6 @@ use Rattle.std.proofs.lemmas.Int.{ints}
 use Rattle.std.specs.Prelude.{List, [], length, ℕ, ◌<◌, ◌∷◌, ◌↔◌, ◌≡◌}
 use lib.IntN.{pos}
 use lib.Signed.{◌≤ℤ◌}
-
--- the greatest value that an answer tells is that at the solutions
-pub told : (A E : List Row) (c : List Ratio) (answer : LpAnswer) → IsAnswer A E c answer → IsGreatest (Solves A E) c (greatest_in answer)
-told A E c (Optimal value point dual) h = optimum_is_maximum A E c value point.items dual.items h
-told A E c (Unbounded point direction) h = direction_is_without_bound A E c point.items direction.items h
-told A E c (Infeasible multipliers) h = infeasible_has_no_point A E multipliers.items h
 
 pub solves_halves : (A E : List Row) (x : Row) → Solves A E x ↔ HalfSpaces E A x
 solves_halves A E x = (λ s. (s.equations, s.inequalities), λ h. record { inequalities = h.1; equations = h.0 })

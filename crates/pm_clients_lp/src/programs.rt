@@ -1,7 +1,7 @@
 // Optima over half-spaces, with a dual or without.
 
 ghost use Rattle.pm_vector.specs.Rows.{HasCols};
-ghost use Rattle.pm_clients_lp.specs.Programs.{HasMultipliers, IsDualMatrixOf, IsFoundWithDual, ShowsOptimum, ShowsWeightOf, greatest_in};
+ghost use Rattle.pm_clients_lp.specs.Programs.{HasMultipliers, IsDualMatrixOf, IsFoundWithDual, ShowsOptimum, ShowsWeightOf};
 ghost use Rattle.pm_dual.specs.Answers.{IsAnswer};
 ghost use Rattle.pm_geom.specs.Programs.{Solves};
 ghost use Rattle.pm_simplex.specs.Answers.{ShowsProgram};
@@ -15,7 +15,7 @@ use pm_fraction::{Fraction, Matrix};
 use pm_simplex::{LpAnswer, LpFail, Sense, maximise_by_dictionaries};
 use pm_types::Number;
 use pm_vector::Ints;
-use pm_wide_programs::maximise_rows_by;
+use pm_wide_programs::{greatest_by, greatest_told, maximise_rows_by};
 use std::alloc::Global;
 
 /// An optimum, and the rows of a dual that shows it.
@@ -52,21 +52,18 @@ fn answer_in(
     Ok(answer)
 }
 
-/// The optimum that the answer tells.
-fn optimum_told(sense: Sense, answer: &LpAnswer) -> Number
-    ensures { value_in sense (extended_of result) ≡ greatest_in answer.now }
+/// The optimum in a sense, by the greatest value that is asked for it.
+fn optimum_by(sense: Sense, greatest: Number) -> Number
+    ensures { value_in sense (extended_of result) ≡ extended_of greatest }
 {
-    match answer {
-        LpAnswer::Optimal { value, .. } => sense.number(Number::Finite(*value)),
-        LpAnswer::Unbounded { .. } => sense.number(Number::Plus),
-        LpAnswer::Infeasible { .. } => sense.number(Number::Minus),
-    }
+    sense.number(greatest)
 }
 
 /// The optimum of an objective over the points with first coordinate 1 that half-spaces and equations have, all rows
 /// of as many entries as the objective has:
 /// the greatest value or the least, an infinity where the objective goes on without end, and the other infinity where
-/// there is no point. Where it is asked by wide numbers, these go on where a pivot leaves the range.
+/// there is no point. Where it is asked by wide numbers, these go on where a pivot leaves the range, whatever room a
+/// point of the optimum and a dual take.
 /// `Wide` only where a pivot of their program leaves the range, which the evidence (E3) shows.
 pub fn optimum_over(
     alloc: Global,
@@ -86,10 +83,9 @@ pub fn optimum_over(
     ensures wide { IfErr result (λ f. IfWide f (ShowsProgram inequalities.now
         equations.now (objective_in sense objective.now))) }
 {
-    let answer = answer_in(alloc, sense, inequalities, equations, objective, wide)?;
-    let value = optimum_told(sense, &answer);
-    drop(answer);
-    Ok(value)
+    let turned = sense.objective(alloc, objective)?;
+    let greatest = greatest_by(alloc, inequalities, equations, &turned, wide)?;
+    Ok(optimum_by(sense, greatest))
 }
 
 /// The rows of the dual of an optimum; none without one.
@@ -134,7 +130,7 @@ fn optimum_by_dictionaries(
     let answer = maximise_by_dictionaries(alloc, inequalities, equations, &turned)?;
     match dual_of(alloc, objective.len(), inequalities, &answer) {
         Ok(dual) => {
-            let value = optimum_told(sense, &answer);
+            let value = optimum_by(sense, greatest_told(&answer));
             drop(answer);
             Ok(OptimumWithDual { value, dual })
         }
@@ -169,7 +165,7 @@ pub fn optimum_with_dual(
     let answer = answer_in(alloc, sense, inequalities, equations, objective, wide)?;
     match dual_of(alloc, objective.len(), inequalities, &answer) {
         Ok(dual) => {
-            let value = optimum_told(sense, &answer);
+            let value = optimum_by(sense, greatest_told(&answer));
             drop(answer);
             Ok(OptimumWithDual { value, dual })
         }

@@ -2,11 +2,12 @@
 use Rattle.pm_fraction.proofs.Reduced.{reduced_from}
 use Rattle.pm_fraction.specs.Fractions.{IsLowestTermsOf, ratio_of}
 use Rattle.pm_geom.specs.ProgramExamples.{row, segment}
+use Rattle.pm_geom.specs.Programs.{Solves}
 use Rattle.pm_vector.specs.Bases.{row_at}
 use Rattle.pm_vector.specs.Cones.{combination}
 use Rattle.pm_vector.specs.Numbers.{IsReduced, Ratio}
-use Rattle.pm_vector.specs.Rows.{Same, entry, plus, times}
-use Rattle.pm_wide_programs.specs.Examples.{CommonValuesAreRead, DirectionsAreRead, IsCommon, SlacksAreRead, ends, half, twice}
+use Rattle.pm_vector.specs.Rows.{Row, Same, entry, plus, times}
+use Rattle.pm_wide_programs.specs.Examples.{CommonValuesAreRead, DirectionsAreRead, IsCommon, ShownAreRead, SlacksAreRead, ends, far_alone, half, twice}
 use Rattle.pm_wide_programs.specs.Slacks.{AreLevelPlaces, IsGreatestAt, StandsAt, slack_of}
 use Rattle.std.proofs.Common.{ap, arith, refl, suc, sym, zero, ◌∙◌}
 use Rattle.std.proofs.lemmas.Int.{ints}
@@ -161,3 +162,35 @@ directions_are_read = record {
   still = λ h. h.changes refl;
   no_line = λ h. absurd (let l : 1 < 1 = h.within in omega arith);
 }
+
+-- ---- what is shown
+pub shown_are_read : ShownAreRead
+shown_are_read = record {
+  value = record { solves = record { inequalities = (omega (arith, ints), (omega (arith, ints), tt)); equations = tt }; up = up; common = common };
+  not_outside = λ v h. let l : pos 0 ≤ℤ negsuc 0 = h.solves.inequalities.1.0 in absurd (omega (arith, ints));
+  not_down = λ d v h. let l : pos 0 ≤ℤ negsuc 0 = h.up 1 (omega arith) in absurd (omega (arith, ints));
+  not_other = λ h. absurd (other_value h.common);
+  grows = record { first = omega (arith, ints); point = nothing; level = refl; direction = nothing; improves = omega (arith, ints) };
+  not_from_a_direction = λ h. let l : pos 0 <ℤ pos 0 = h.first in absurd (omega (arith, ints));
+  not_to_a_point = λ h. let e : pos 1 ≡ pos 0 = h.level in absurd (omega (arith, ints));
+  not_back = λ h. let l : pos 0 <ℤ negsuc 0 = h.improves in absurd (omega (arith, ints));
+  not_out = λ h. let l : pos 0 ≤ℤ negsuc 0 = h.direction.inequalities.1.0 in absurd (omega (arith, ints));
+  not_from_outside = λ h. let l : pos 0 ≤ℤ negsuc 0 = h.point.inequalities.1.0 in absurd (omega (arith, ints));
+  none = record { up = λ i l. absurd (omega arith); constant = negsuc 0; negative = omega (arith, ints); sum = record { at = below } };
+  not_up = λ h. let e : h.constant ≡ pos 1 = h.sum.at 0 in let l = h.negative in absurd (omega (arith, ints));
+  not_of_an_inequality = λ h. let l : pos 0 ≤ℤ negsuc 0 = h.up 0 (omega arith) in absurd (omega (arith, ints));
+  not_constant = λ h. let e : pos 0 ≡ negsuc 0 = h.sum.at 1 in absurd (omega (arith, ints));
+}
+  where
+    nothing : {x : Row} → Solves [] [] x
+    nothing = record { inequalities = tt; equations = tt }
+
+    up : (i : ℕ) → i < length segment → pos 0 ≤ℤ entry (row (pos 0) (pos 3)) i
+    up zero l = omega (arith, ints)
+    up (suc zero) l = omega (arith, ints)
+    up (suc (suc i)) l = absurd (omega arith)
+
+    below : (i : ℕ) → entry (negsuc 0 ∷ []) i ≡ entry (combination (negsuc 0 ∷ []) far_alone) i
+    below zero = refl
+    below (suc zero) = refl
+    below (suc (suc i)) = refl

@@ -2,6 +2,7 @@ mod ValueRows
 mod ColumnSums
 mod WholeQuotients
 mod CommonDuals
+pub mod Shown
 mod Cones
 mod Places
 mod Slacks

@@ -3,6 +3,7 @@ use Rattle.pm_geom.specs.ProgramExamples.{ratio, row, segment}
 use Rattle.pm_vector.specs.Numbers.{Ratio}
 use Rattle.pm_vector.specs.Rows.{Row}
 use Rattle.pm_wide_programs.specs.CommonValues.{IsCommonValue}
+use Rattle.pm_wide_programs.specs.Shown.{IsShownInfeasible, IsShownUnbounded, IsShownValue}
 use Rattle.pm_wide_programs.specs.Slacks.{AreLevelPlaces, IsAhead, IsGreatestAt, Rises, StandsAt, Turns, slack_of}
 use Rattle.std.specs.Prelude.{List, [], ◌∷◌, ◌≡◌}
 use lib.IntN.{negsuc, pos, ℤ}
@@ -32,6 +33,33 @@ pub record CommonValuesAreRead : Type 0 where
   -- the objective may not be turned, and 3 x + 2 (1 - x) is no constant
   pub turned : ¬ (IsCommon (row (pos 2) (pos 2)) (negsuc 2) (row (pos 0) (negsuc 2)) half)
   pub no_constant : (v : Ratio) → ¬ (IsCommon (row (pos 2) (pos 2)) (pos 3) (row (pos 0) (pos 2)) v)
+
+-- no inequality, but the equation x0 = 0, which no point meets
+abbrev pub far_alone : List Row
+far_alone = row (pos 1) (pos 0) ∷ []
+
+pub record ShownAreRead : Type 0 where
+  -- what the value and the multipliers have in common is shown where the point solves the rows and no multiplier of an
+  -- inequality is negative
+  pub value : IsShownValue segment [] (pos 2) twice (row (pos 2) (pos 2)) (pos 3) (row (pos 0) (pos 3)) half
+  pub not_outside : (v : Ratio)
+      → ¬ (IsShownValue segment [] (pos 2) twice (row (pos 1) (pos 2)) (pos 3) (row (pos 0) (pos 3)) v)
+  pub not_down : (d : ℤ) (v : Ratio)
+      → ¬ (IsShownValue segment [] (pos 2) twice (row (pos 2) (pos 2)) d (row (pos 0) (negsuc 0)) v)
+  pub not_other : ¬ (IsShownValue segment [] (pos 2) twice (row (pos 2) (pos 2)) (pos 3) (row (pos 0) (pos 3))
+      (ratio (pos 1) (pos 1)))
+  -- x grows along the line, where there are no rows; not from a direction, nor to a point, nor the other way
+  pub grows : IsShownUnbounded [] [] twice (row (pos 1) (pos 0)) (row (pos 0) (pos 1))
+  pub not_from_a_direction : ¬ (IsShownUnbounded [] [] twice (row (pos 0) (pos 1)) (row (pos 0) (pos 1)))
+  pub not_to_a_point : ¬ (IsShownUnbounded [] [] twice (row (pos 1) (pos 0)) (row (pos 1) (pos 1)))
+  pub not_back : ¬ (IsShownUnbounded [] [] twice (row (pos 1) (pos 0)) (row (pos 0) (negsuc 0)))
+  pub not_out : ¬ (IsShownUnbounded segment [] twice (row (pos 1) (pos 0)) (row (pos 0) (pos 1)))
+  pub not_from_outside : ¬ (IsShownUnbounded segment [] twice (row (pos 1) (pos 2)) (row (pos 0) (pos 1)))
+  -- x0 = 0, taken -1 times, leaves no point; taken once, or not as an equation, it shows nothing
+  pub none : IsShownInfeasible [] far_alone (negsuc 0 ∷ [])
+  pub not_up : ¬ (IsShownInfeasible [] far_alone (pos 1 ∷ []))
+  pub not_of_an_inequality : ¬ (IsShownInfeasible far_alone [] (negsuc 0 ∷ []))
+  pub not_constant : ¬ (IsShownInfeasible [] (row (pos 1) (pos 1) ∷ []) (negsuc 0 ∷ []))
 
 -- the vertices 0 and 1 of the segment
 abbrev pub ends : List Row

@@ -5,8 +5,9 @@ ghost use Rattle.pm_vector.specs.Rows.{HasCols};
 ghost use Rattle.pm_vector.specs.WideInts.{value_of};
 ghost use Rattle.pm_dual.specs.Answers.{IsAnswer, IsAnswerOfTimes};
 ghost use Rattle.pm_wide_programs.specs.CommonValues.{IsCommonValue};
+ghost use Rattle.pm_wide_programs.specs.Shown.{IsShownInfeasible, IsShownUnbounded, IsShownValue};
 ghost use Rattle.pm_wide_programs.specs.Values.{values};
-ghost use Rattle.std.specs.Prelude.{IfOk, IfSome, List, length, pos, ◌+◌, ◌<◌, ◌<ℤ◌, ◌≡◌};
+ghost use Rattle.std.specs.Prelude.{IfOk, IfSome, IsTrue, List, length, ◌+◌, ◌<◌, ◌≡◌};
 
 use crate::fractions::{quotient, quotients};
 use crate::objective::WholeObjective;
@@ -46,6 +47,93 @@ fn common_value(
     if value == bound { Some(value) } else { None }
 }
 
+/// The value at the point over its first entry, with the multipliers over the scale as its dual, where exact products
+/// show that it is the greatest.
+pub(crate) fn shown_value(
+    inequalities: &[Ints],
+    equations: &[Ints],
+    objective: &WholeObjective,
+    point: &[WideInt],
+    scale: WideInt,
+    multipliers: &[WideInt],
+) -> Option<Fraction>
+    requires some { 0 < length point.now }
+    requires cols { length point.now ≡ length objective.now.row }
+    requires as_many { length multipliers.now ≡ length inequalities.now + length equations.now }
+    requires inequality_cols { HasCols (length point.now) inequalities.now }
+    requires equation_cols { HasCols (length point.now) equations.now }
+    ensures { IfSome result
+        (IsShownValue inequalities.now equations.now objective.now.times objective.now.row
+        (values point.now) (value_of scale) (values multipliers.now)) }
+{
+    if !first_not_negative(multipliers, inequalities.len())
+        || !solves(inequalities, equations, point)
+    {
+        return None;
+    }
+    common_value(
+        inequalities,
+        equations,
+        objective,
+        point,
+        scale,
+        multipliers,
+    )
+}
+
+/// Whether exact products show that the objective grows without bound from the point over its first entry in the
+/// direction.
+pub(crate) fn grows(
+    inequalities: &[Ints],
+    equations: &[Ints],
+    objective: &WholeObjective,
+    point: &[WideInt],
+    direction: &[WideInt],
+) -> bool
+    requires some { 0 < length point.now }
+    requires cols { length point.now ≡ length objective.now.row }
+    requires direction_cols { length direction.now ≡ length objective.now.row }
+    requires inequality_cols { HasCols (length point.now) inequalities.now }
+    requires equation_cols { HasCols (length point.now) equations.now }
+    ensures { IsTrue result → IsShownUnbounded inequalities.now equations.now objective.now.row
+        (values point.now) (values direction.now) }
+{
+    if !point[0].is_positive() || !solves(inequalities, equations, point) {
+        return false;
+    }
+    if !direction[0].is_zero() || !solves(inequalities, equations, direction) {
+        return false;
+    }
+    match product(objective.row.as_slice(), direction) {
+        Some(rate) => rate.is_positive(),
+        None => false,
+    }
+}
+
+/// Whether exact products show that the rows, taken these numbers of times, sum to a negative constant.
+pub(crate) fn excludes_points(
+    inequalities: &[Ints],
+    equations: &[Ints],
+    objective: &WholeObjective,
+    multipliers: &[WideInt],
+) -> bool
+    requires some { 0 < length objective.now.row }
+    requires as_many { length multipliers.now ≡ length inequalities.now + length equations.now }
+    requires inequality_cols { HasCols (length objective.now.row) inequalities.now }
+    requires equation_cols { HasCols (length objective.now.row) equations.now }
+    ensures { IsTrue result
+        → IsShownInfeasible inequalities.now equations.now (values multipliers.now) }
+{
+    if !first_not_negative(multipliers, inequalities.len()) {
+        return false;
+    }
+    let none = WideInt::of(0);
+    match constant_of(none, &objective.row, multipliers, inequalities, equations) {
+        Some(constant) => constant.is_negative(),
+        None => false,
+    }
+}
+
 /// The optimum at the point over its first entry, with the multipliers over the scale as its dual, where exact
 /// products show it.
 pub(crate) fn optimum(
@@ -65,12 +153,7 @@ pub(crate) fn optimum(
     ensures { IfOk result (λ o.
         IfSome o (IsAnswerOfTimes inequalities.now equations.now objective.now.times objective.now.row)) }
 {
-    if !first_not_negative(multipliers, inequalities.len())
-        || !solves(inequalities, equations, point)
-    {
-        return Ok(None);
-    }
-    let Some(value) = common_value(
+    let Some(value) = shown_value(
         inequalities,
         equations,
         objective,
@@ -110,16 +193,7 @@ pub(crate) fn unbounded(
     ensures { IfOk result (λ o.
         IfSome o (IsAnswerOfTimes inequalities.now equations.now objective.now.times objective.now.row)) }
 {
-    if !point[0].is_positive() || !solves(inequalities, equations, point) {
-        return Ok(None);
-    }
-    if !direction[0].is_zero() || !solves(inequalities, equations, direction) {
-        return Ok(None);
-    }
-    let Some(rate) = product(objective.row.as_slice(), direction) else {
-        return Ok(None);
-    };
-    if !rate.is_positive() {
+    if !grows(inequalities, equations, objective, point, direction) {
         return Ok(None);
     }
     let Some(point) = quotients(alloc, point, point[0])? else {
@@ -147,15 +221,7 @@ pub(crate) fn infeasible(
     ensures { IfOk result (λ o. IfSome o (λ answer. (c : List Ratio)
         → IsAnswer inequalities.now equations.now c answer)) }
 {
-    if !first_not_negative(multipliers, inequalities.len()) {
-        return Ok(None);
-    }
-    let none = WideInt::of(0);
-    let Some(constant) = constant_of(none, &objective.row, multipliers, inequalities, equations)
-    else {
-        return Ok(None);
-    };
-    if !constant.is_negative() {
+    if !excludes_points(inequalities, equations, objective, multipliers) {
         return Ok(None);
     }
     let Some(multipliers) = quotients(alloc, multipliers, WideInt::of(1))? else {

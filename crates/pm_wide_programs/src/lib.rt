@@ -2,7 +2,7 @@
 //! of properties, values and objects.
 #![tactic(auto)]
 
-ghost use Rattle.pm_wide_programs.specs.Examples.{CommonValuesAreRead, DirectionsAreRead, SlacksAreRead};
+ghost use Rattle.pm_wide_programs.specs.Examples.{CommonValuesAreRead, DirectionsAreRead, ShownAreRead, SlacksAreRead};
 
 mod answer;
 mod best;
@@ -22,14 +22,19 @@ mod sums;
 mod vertex;
 mod wide_row;
 
-pub use answer::wide_answer;
+pub use answer::{wide_answer, wide_greatest};
 pub use face::wide_places_of_value;
-pub use maximise::maximise_rows_by;
+pub use maximise::{greatest_by, greatest_told, maximise_rows_by};
 pub use rays::wide_value_at_rays;
 
 /// The one value of a point and of multipliers.
 pub fn example_common_values()
     ensures { CommonValuesAreRead }
+{}
+
+/// What shows an optimum, an objective without bound, and that there is no point; and what does not.
+pub fn example_shown()
+    ensures { ShownAreRead }
 {}
 
 /// The slacks of a value at vertices, and where it stands.
