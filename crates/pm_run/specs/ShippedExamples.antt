@@ -46,7 +46,7 @@ nothing = record { kind = nameless; values = [] }
 abbrev pub crowded : ClientFail
 crowded = Failed (E5Faces [])
 
--- there are 95 clients, none of which was started
+-- there are 95 clients, of which the first one, dd_vertices, was not started
 pub record ClientsAreShipped : Type 0 where
   pub many : length shipped_clients ≡ 95
   pub unstarted : (rest : Clients) × (shipped_clients ≡ (standard_kind client.DdVertices, 0) ∷ rest)
