@@ -12,7 +12,7 @@ use Rattle.pm_standard.specs.declared.standard.StandardClient.{StandardClient}
 use Rattle.pm_standard.specs.declared.standard.StandardClient.TheVariants as client
 use Rattle.pm_simplex.specs.declared.sense.Sense.{Sense}
 use Rattle.pm_simplex.specs.declared.sense.Sense.TheVariants.{Maximal, Minimal}
-use Rattle.std.specs.Prelude.{Bool, false, true, ◌⊎◌}
+use Rattle.std.specs.Prelude.{Bool, false, true, ◌≡◌, ◌⊎◌}
 
 -- ---- in each sense, and by wide numbers or not: the client of the optimum, with a dual, over FACETS; over
 -- INEQUALITIES
@@ -71,7 +71,7 @@ FailsBy P (Failed e) = P e
 abbrev pub IsWideWithDual : ViewSeen → Evidence → Type 0
 IsWideWithDual v e = IsWideOptimum v e ⊎ IsWideDual v e
 
--- each client fails with evidence of its own
+-- each client fails with evidence of its own, and the wide one of the rays at the optimum for want of memory alone
 abbrev pub LinearFails : LpWork → ViewSeen → ClientFail → Type 0
 LinearFails (work.OverFacets sense) v e = FailsBy (IsWideWithDual v) e
 LinearFails (work.OverRows sense) v e = FailsBy (IsWideOptimum v) e
@@ -80,4 +80,4 @@ LinearFails (work.AtFace sense) v e = FailsBy (IsWideFace v) e
 LinearFails (work.OverFacetsWide sense) v e = FailsBy (IsWideWithDual v) e
 LinearFails (work.OverRowsWide sense) v e = FailsBy (IsWideOptimum v) e
 LinearFails (work.AtRaysWide sense) v e = FailsBy (IsWideAtRays v) e
-LinearFails (work.AtFaceWide sense) v e = FailsBy (IsWideFace v) e
+LinearFails (work.AtFaceWide sense) v e = e ≡ Memory

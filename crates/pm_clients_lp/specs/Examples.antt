@@ -37,6 +37,9 @@ pub record FailsAreRead : Type 0 where
   pub wide_product : ¬ (LinearFails (work.OverRowsWide Maximal) view (Failed (E4 (pos 1 ∷ []) (pos 1 ∷ []))))
   pub wide_pivot : ¬ (LinearFails (work.AtRaysWide Maximal) view (Failed (E3 [] 0 0 0 0)))
   pub wide_face_pivot : ¬ (LinearFails (work.AtFaceWide Minimal) view (Failed (E3 [] 0 0 0 0)))
+  -- and by these no evidence tells why the rays at the optimum were not found, but memory may be wanting
+  pub wide_face : (e : Evidence) → ¬ (LinearFails (work.AtFaceWide Minimal) view (Failed e))
+  pub wide_face_memory : LinearFails (work.AtFaceWide Minimal) view Memory
   -- rows are read of VERTICES, and none of an optimum
   pub rows : is_of_rows Vertices ≡ true
   pub no_rows : is_of_rows MaximalValue ≡ false

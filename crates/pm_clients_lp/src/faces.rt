@@ -1,6 +1,7 @@
 // The clients that find the rays at an optimum.
 
 ghost use Rattle.pm_client.specs.Sound.{FailsRightly, IsSound, IsWideFace, optimum};
+ghost use Rattle.pm_client.specs.declared.ClientFail.TheVariants.{Memory};
 ghost use Rattle.pm_clients_lp.specs.Clients.{FailsBy, at_face};
 ghost use Rattle.pm_clients_lp.specs.Reading.{ArePlacesAt};
 ghost use Rattle.pm_object.specs.Reading.{fact_of};
@@ -8,7 +9,7 @@ ghost use Rattle.pm_standard.specs.Table.{standard_kind};
 ghost use Rattle.pm_types.specs.Forms.{is_counts_form};
 ghost use Rattle.pm_types.specs.Values.{extended};
 ghost use Rattle.pm_types.specs.Views.{extended_of};
-ghost use Rattle.std.specs.Prelude.{IfErr, IfOk, IsTrue, OnOk, Some, [], ◌≡◌};
+ghost use Rattle.std.specs.Prelude.{IfErr, IfOk, IsTrue, OnOk, Some, [], true, ◌≡◌};
 
 use crate::optima::places_of_value_by;
 use crate::properties::{face_in, value_in};
@@ -35,6 +36,7 @@ fn places_at(
         (extended_of number) ks.items) }
     ensures form { IfOk result (λ ks. IsTrue (is_counts_form ks.items)) }
     ensures fails { IfErr result (FailsBy (IsWideFace view.now)) }
+    ensures total { wide ≡ true → IfErr result (λ e. e ≡ Memory) }
 {
     prove!(view.of() == ObjectType::Polytope);
     let rays = rows_of(alloc, view, PropId::Vertices)?;
@@ -62,6 +64,7 @@ pub(crate) fn face_at_value(
     ensures sound { OnOk result (IsSound view.now draft.new) }
     ensures failed { IfErr result (FailsRightly view.now) }
     ensures fails { IfErr result (FailsBy (IsWideFace view.now)) }
+    ensures total { wide ≡ true → IfErr result (λ e. e ≡ Memory) }
 {
     prove!(view.of() == ObjectType::Polytope);
     let number = number_of(view, value_in(sense));

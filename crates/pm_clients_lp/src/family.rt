@@ -41,7 +41,7 @@ pub struct LpFamily;
 /// program leaves the range, and those with a dual where a row of the dual does; the others where a product of the
 /// objective with a ray or line does, or the optimum, or the row that vanishes at it. A wide one goes on by wide
 /// numbers where a pivot, such a product, the optimum or that row leaves the range, and where these do not suffice it
-/// fails as the standard one.
+/// fails as the standard one; that of the rays at the optimum fails for want of memory alone.
 pub type LpClient = FamilyClient<LpFamily>;
 
 impl Family for LpFamily {

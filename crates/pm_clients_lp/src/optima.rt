@@ -2,6 +2,7 @@
 
 ghost use Rattle.pm_limits.specs.Limits.{most_rows};
 ghost use Rattle.pm_simplex.specs.Fails.{IfWide};
+ghost use Rattle.pm_simplex.specs.declared.fails.LpFail.TheVariants as fail;
 ghost use Rattle.pm_simplex.specs.OptimumEvidence.{ShowsFace, ShowsValue};
 ghost use Rattle.pm_simplex.specs.Senses.{IsOptimum, objective_in, ratio_in, value_in};
 ghost use Rattle.pm_types.specs.Forms.{HasPrimitiveRow, is_counts_form};
@@ -10,7 +11,7 @@ ghost use Rattle.pm_types.specs.Values.{finite};
 ghost use Rattle.pm_types.specs.Views.{extended_of};
 ghost use Rattle.pm_vector.specs.Cones.{InCone};
 ghost use Rattle.pm_vector.specs.Rows.{HasCols, entry};
-ghost use Rattle.std.specs.Prelude.{All, IfErr, IfOk, IsTrue, length, pos, ◌<◌, ◌≡◌, ◌≤ℤ◌, ◌≤◌};
+ghost use Rattle.std.specs.Prelude.{All, IfErr, IfOk, IsTrue, length, pos, true, ◌<◌, ◌≡◌, ◌≤ℤ◌, ◌≤◌};
 
 use pm_fraction::Fraction;
 use pm_optima::{places_of_value, value_at_rays};
@@ -59,7 +60,7 @@ pub(crate) fn value_at_rays_by(
 }
 
 /// As `places_of_value` of `pm_optima`, and where the row that vanishes at the value leaves the range or a product
-/// does and it is asked by wide numbers, the places by these if they show them; else the refusal of the first.
+/// does and it is asked by wide numbers, the places by these, which always show them.
 pub(crate) fn places_of_value_by(
     alloc: Global,
     sense: Sense,
@@ -78,21 +79,21 @@ pub(crate) fn places_of_value_by(
     ensures form { IfOk result (λ v. IsTrue (is_counts_form v.items)) }
     ensures wide { IfErr result (λ f.
         IfWide f (ShowsFace sense objective.now (ratio_in sense value) rays.now)) }
+    ensures total { wide ≡ true → IfErr result (λ f. f ≡ fail.Memory) }
 {
     match places_of_value(alloc, sense, objective, value, rays) {
-        Err(LpFail::Wide(evidence)) if wide => {
-            match wide_places_of_value(alloc, sense, objective, value, rays) {
-                Ok(Some(places)) => {
-                    drop(evidence);
-                    Ok(places)
-                }
-                Ok(None) => Err(LpFail::Wide(evidence)),
-                Err(e) => {
-                    drop(evidence);
-                    Err(LpFail::from(e))
-                }
+        Err(LpFail::Wide(evidence)) => {
+            if wide {
+                drop(evidence);
+                let Some(places) = wide_places_of_value(alloc, sense, objective, value, rays)?
+                else {
+                    unreachable!()
+                };
+                return Ok(places);
             }
+            Err(LpFail::Wide(evidence))
         }
-        other => other,
+        Err(LpFail::Memory) => Err(LpFail::Memory),
+        Ok(places) => Ok(places),
     }
 }

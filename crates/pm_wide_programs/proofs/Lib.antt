@@ -8,3 +8,4 @@ mod Places
 mod Slacks
 mod Senses
 mod Examples
+mod WholeRows

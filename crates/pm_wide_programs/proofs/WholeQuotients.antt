@@ -44,10 +44,3 @@ pub lowest_divided : (g : ℕ) (n d n' d' a b : ℤ) (r : Ratio) → n ≡ pos g
 lowest_divided g n d n' d' a b r en ed ea eb hd l =
     subst (λ z. IsLowestTermsOf (ratio_of z d) r) (sym en) (subst (λ z. IsLowestTermsOf (ratio_of (pos g *ℤ n') z) r) (sym ed)
     (lowest_times (pos g) n' d' r (subst (λ z. pos 0 <ℤ z) ed hd) (subst (λ z. IsLowestTermsOf (ratio_of z d') r) ea (subst (λ z. IsLowestTermsOf (ratio_of a z) r) eb l))))
-
--- p / q is n t / d in lowest terms, and q is 1
-pub whole_taken : (p q v w n d t u : ℤ) → p *ℤ w ≡ v *ℤ q → q ≡ pos 1 → v ≡ n *ℤ t → w ≡ d → u ≡ p → u *ℤ d ≡ t *ℤ n
-whole_taken p q v w n d t u same one ev ew eu = ap (λ z. z *ℤ d) eu ∙ ap (λ z. p *ℤ z) (sym ew) ∙ same ∙ ap (λ z. v *ℤ z) one ∙ ap (λ z. z *ℤ pos 1) ev ∙ turn
-  where
-    turn : (n *ℤ t) *ℤ pos 1 ≡ t *ℤ n
-    turn = simp ring

@@ -55,7 +55,7 @@ fn value_at(objective: &WholeObjective, x: &Ints) -> Option<Fraction>
     quotient(product, WideInt::product(x.get(0), objective.times))
 }
 
-/// Whether each slack of the value at a ray is made and is not negative.
+/// Whether no slack of the value at a ray is negative.
 fn none_exceeds(objective: &WholeObjective, value: Fraction, rays: &[Ints]) -> bool
     requires some { 0 < length objective.now.row }
     requires cols { HasCols (length objective.now.row) rays.now }
@@ -63,9 +63,8 @@ fn none_exceeds(objective: &WholeObjective, value: Fraction, rays: &[Ints]) -> b
         (λ x. pos 0 ≤ℤ slack_of objective.now.times objective.now.row value x) rays.now }
 {
     for i in 0..rays.len() {
-        match slack(objective, value, &rays[i]) {
-            Some(made) if !made.is_negative() => {}
-            _ => return false,
+        if slack(objective, value, &rays[i]).is_negative() {
+            return false;
         }
     }
     true

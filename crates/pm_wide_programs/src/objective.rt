@@ -1,12 +1,11 @@
 // An objective as a whole row.
 
 ghost use Rattle.pm_geom.specs.Programs.{IsTimes};
-ghost use Rattle.pm_vector.specs.Numbers.{InRange};
-ghost use Rattle.std.specs.Prelude.{IfOk, IfSome, pos, ◌*ℤ◌, ◌<ℤ◌, ◌≡◌};
+ghost use Rattle.pm_types.specs.Forms.{HasPrimitiveRow};
+ghost use Rattle.std.specs.Prelude.{IfNone, IfOk, IfSome, length, pos, ◌<◌, ◌∷◌, ◌≡◌};
 
-use crate::fractions::quotient;
-use pm_fraction::Fraction;
-use pm_vector::{Ints, WideInt, gcd};
+use pm_fraction::{Fraction, RowFail, primitive_row};
+use pm_vector::Ints;
 use std::alloc::{AllocError, Global};
 
 /// A positive number of times an objective, as a whole row.
@@ -16,53 +15,40 @@ pub(crate) struct WholeObjective {
     pub row: Ints,
 }
 
-/// A common multiple of the denominators, where it has 127 bits.
-fn common_denominator(row: &[Fraction]) -> Option<i128> {
-    let mut multiple = 1u128;
-    for i in 0..row.len() {
-        let den = row[i].den().unsigned_abs();
-        let divisor = gcd(multiple, den);
-        if divisor == 0 {
-            return None;
-        }
-        multiple = multiple.checked_mul(den / divisor)?;
-    }
-    i128::try_from(multiple).ok()
-}
-
-/// A fraction, taken a number of times, where that is whole and in the range of 128 bits.
-fn taken(f: Fraction, times: i128) -> Option<i128>
-    ensures whole { IfSome result (λ n. n *ℤ f.den ≡ times *ℤ f.num) }
-    ensures positive { IfSome result (λ _. pos 0 <ℤ f.den) }
-    ensures in_range { IfSome result InRange }
+/// 1, and then the entries of a row.
+fn behind_one(alloc: Global, row: &[Fraction]) -> Result<Vec<Fraction>, AllocError>
+    ensures { IfOk result (λ v. v.items ≡ record { num = pos 1; den = pos 1 } ∷ row.now) }
 {
-    let product = quotient(WideInt::product(f.num(), times), WideInt::of(f.den()))?;
-    if product.den() == 1 {
-        Some(product.num())
-    } else {
-        None
-    }
+    let mut made = Vec::new(alloc);
+    made.push(Fraction::one())?;
+    made.extend_from_slice(row)?;
+    Ok(made)
 }
 
-/// The objective as a whole row. None where that leaves the range of 128 bits.
+/// The first entry of a row, and the others.
+fn parted(alloc: Global, row: &Ints) -> Result<WholeObjective, AllocError>
+    requires { 0 < length row.now }
+    ensures { IfOk result (λ w. row.now ≡ w.times ∷ w.row) }
+{
+    let entries = Vec::from_slice(alloc, &row.as_slice()[1..])?;
+    Ok(WholeObjective {
+        times: row.get(0),
+        row: Ints::from_vec(entries),
+    })
+}
+
+/// The objective as a whole row. None only where its primitive row is not made within the range of 128 bits.
 pub(crate) fn whole_objective(
     alloc: Global,
     objective: &[Fraction],
 ) -> Result<Option<WholeObjective>, AllocError>
-    ensures { IfOk result (λ o. IfSome o (λ w. IsTimes w.times objective.now w.row)) }
+    ensures times { IfOk result (λ o. IfSome o (λ w. IsTimes w.times objective.now w.row)) }
+    ensures none { IfOk result (λ o. IfNone o (¬ (HasPrimitiveRow objective.now))) }
 {
-    let Some(times) = common_denominator(objective) else {
-        return Ok(None);
-    };
-    if times <= 0 {
-        return Ok(None);
+    let longer = behind_one(alloc, objective)?;
+    match primitive_row(alloc, &longer) {
+        Ok(row) => Ok(Some(parted(alloc, &row)?)),
+        Err(RowFail::Wide { .. }) => Ok(None),
+        Err(RowFail::Memory) => Err(AllocError),
     }
-    let mut row = Ints::new(alloc);
-    for i in 0..objective.len() {
-        match taken(objective[i], times) {
-            Some(entry) => row.push(entry)?,
-            None => return Ok(None),
-        }
-    }
-    Ok(Some(WholeObjective { times, row }))
 }

@@ -12,7 +12,9 @@ returns c = record {
   face_pivot = λ h. elim h.shown [ inl p ↦ p.shown | inr p ↦ p.shown ];
   wide_product = λ h. h.shown.shown;
   wide_pivot = λ h. elim h.shown.shown [ inl p ↦ p | inr p ↦ p ];
-  wide_face_pivot = λ h. elim h.shown [ inl p ↦ p.shown | inr p ↦ p.shown ];
+  wide_face_pivot = λ h. cc;
+  wide_face = λ e h. cc;
+  wide_face_memory = refl;
   rows = refl;
   no_rows = refl;
 }

@@ -1,5 +1,5 @@
 use Rattle.pm_clients_lp.proofs.Facts.{objective_cols, objective_some, objective_stays, program_view, rows_cols, rows_few}
-use Rattle.pm_client.specs.Sound.{IsWideFace, optimum}
+use Rattle.pm_client.specs.Sound.{IsWideFace, fail_of_program, optimum}
 use Rattle.pm_clients_lp.proofs.Failing.{face_fails}
 use Rattle.pm_clients_lp.proofs.Found.{none_at}
 use Rattle.pm_clients_lp.specs.Clients.{FailsBy}
@@ -14,7 +14,7 @@ use Rattle.pm_object_type.specs.declared.object_type.ObjectType.TheVariants.{Pol
 use Rattle.pm_props.specs.declared.property.PropId.TheVariants.{Vertices}
 use Rattle.pm_types.specs.Forms.{is_counts_form}
 use Rattle.pm_types.specs.Views.{extended_of}
-use Rattle.std.proofs.Common.{refl, rules, subst, sym, true, ◌∙◌, ◌≡◌}
+use Rattle.std.proofs.Common.{ap, refl, rules, subst, sym, true, ◌∙◌, ◌≡◌}
 
 pub prove-unreachable-requires : goal.prove-unreachable-requires
 prove-unreachable-requires c =
@@ -51,6 +51,11 @@ returns-in_err-places-in-Finite-clause-fails c =
     (subst (λ z. fact_of (optimum c.args.sense) v.facts ≡ Some (extended (extended_of z))) c.in-Finite.is c.requires.value)
     (rw (c.deref.ensures.value) at c.in_err-places-in-Finite.ensures.wide)))
 
+pub returns-in_err-places-in-Finite-clause-total : goal.returns-in_err-places-in-Finite-clause-total
+returns-in_err-places-in-Finite-clause-total c = λ t.
+    let w = err_from_is_err_and c.from_residual-in_err-places-in-Finite.result c.from_residual-in_err-places-in-Finite.ensures.1 in
+    rw w.1 (w.2 ∙ ap fail_of_program (c.in_err-places-in-Finite.ensures.total t))
+
 pub returns : goal.returns
 returns c =
     let v = c.args.view.now in
@@ -58,4 +63,5 @@ returns c =
       places = subst (ArePlacesAt v c.args.sense (extended_of c.args.number)) (sym c.new.ensures.items) (none_at v c.args.sense c.args.number (λ q e. c.in_default.not-Finite q e) c.in_ok-rays.rays.items c.in_ok-rays.ensures.read c.objective_of-objective.result.now c.objective_of-objective.ensures);
       form = subst (λ z. is_counts_form z ≡ true) (sym c.new.ensures.items) refl;
       fails = tt;
+      total = λ t. tt;
     }

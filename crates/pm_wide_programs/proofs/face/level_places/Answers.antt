@@ -10,8 +10,8 @@ use Rattle.std.proofs.lemmas.List.{get_or_read}
 pub loop-i-preserved : goal.loop-i-preserved
 loop-i-preserved c =
     let row : c.index-rays-i.result ≡ row_at c.args.rays.now c.loop-i.i = get_or_read c.args.rays.now c.loop-i.i c.index-rays-i.result c.loop-i-test.true c.index-rays-i.is [] in
-    let made : value_of c.in-Some.made ≡ slack_of c.args.objective.now.times c.args.objective.now.row c.args.value (row_at c.args.rays.now c.loop-i.i) =
-    c.in-Some.ensures ∙ ap (slack_of c.args.objective.now.times c.args.objective.now.row c.args.value) row in
+    let made : value_of c.slack-made.result ≡ slack_of c.args.objective.now.times c.args.objective.now.row c.args.value (row_at c.args.rays.now c.loop-i.i) =
+    c.slack-made.ensures ∙ ap (slack_of c.args.objective.now.times c.args.objective.now.row c.args.value) row in
     let few = c.requires.few in
     elim c.if-is_zero.branch [
       | then-is_zero+in_ok-push w ↦
