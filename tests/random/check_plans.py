@@ -132,8 +132,8 @@ def random_object(random, name):
 
 
 def asks_of(random, rules):
-    """Up to three names that rules find, not of fans."""
-    names = sorted(set().union(*(rule.targets for rule in rules)) - OF_FANS)
+    """Up to three names that rules find, not of fans; VERTICES where there are none."""
+    names = sorted(set().union(*(rule.targets for rule in rules)) - OF_FANS) or ['VERTICES']
     return random.sample(names, min(len(names), random.choice([1, 1, 2, 3])))
 
 
